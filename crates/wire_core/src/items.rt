@@ -1,0 +1,81 @@
+ghost use Rattle.std.specs.Prelude.{◌≡◌, ◌==◌, [], ◌∷◌, ◌++◌, length, OnOk, OnErr};
+
+use crate::memory::NoMemory;
+use std::alloc::Global;
+use std::marker::Model;
+
+/// A `Vec` that contracts see as the list of its elements, also inside other types. The types whose names end in
+/// `List` or `Bytes` are made of it.
+#[derive(Debug, Drop)]
+pub struct Items<T> {
+    items: Vec<T>,
+}
+
+impl<T> Model for Items<T> {
+    ghost use Rattle.std.specs.Prelude.{List};
+    ghost use Rattle.std.specs.Coded.{coded_list};
+
+    ghost Value = { List T };
+
+    ghost coded = { coded_list T.code };
+
+    ghost view = { λ it. it.items.items };
+}
+
+impl<T> Items<T> {
+    /// No elements. Takes no memory.
+    pub fn new(alloc: Global) -> Items<T>
+        ensures { result ≡ [] }
+    {
+        Items {
+            items: Vec::new(alloc),
+        }
+    }
+
+    /// The elements of a `Vec`.
+    pub fn from_vec(items: Vec<T>) -> Items<T>
+        ensures { result ≡ items.items }
+    {
+        Items { items }
+    }
+
+    /// The `Vec` of the elements.
+    pub fn into_vec(self) -> Vec<T>
+        ensures { result.items ≡ self }
+    {
+        let Items { items } = self;
+        items
+    }
+
+    /// The elements in order.
+    pub fn as_slice(&self) -> &[T]
+        ensures { result.now ≡ self.now }
+    {
+        self.items.as_slice()
+    }
+
+    /// The number of elements.
+    pub fn len(&self) -> usize
+        ensures { result ≡ length self.now }
+    {
+        self.items.len()
+    }
+
+    /// Whether there is no element.
+    pub fn is_empty(&self) -> bool
+        ensures { result ≡ (length self.now == 0) }
+    {
+        self.items.is_empty()
+    }
+}
+
+impl<T: Drop> Items<T> {
+    /// Adds an element at the end. Without memory the elements stay.
+    pub fn push(&mut self, item: T) -> Result<(), NoMemory>
+        ensures ok { OnOk result (self.new ≡ self.old ++ item ∷ []) }
+        ensures err { OnErr result (self.new ≡ self.old) }
+    {
+        self.items.push(item)?;
+        Ok(())
+    }
+}

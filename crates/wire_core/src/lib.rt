@@ -1,0 +1,42 @@
+//! The ground: addresses, port ranges, flows, nodes, the rules of leasing, and the values of the log.
+//!
+//! Everything above promises in these words. A number on the wire or on disk is big-endian.
+//!
+//! | module | what a reader finds |
+//! |---|---|
+//! | `address` | [`Ip4`], [`Socket`] |
+//! | `flow` | [`Proto`], [`FlowKey`] |
+//! | `range` | [`Range`]: eight contiguous ports of a VIP |
+//! | `rules` | [`LeaseRules`]: which ranges may be leased, and by whom |
+//! | `command`, `value` | [`Command`], [`Value`]: what the managers agree on |
+//! | `numbers`, `reading`, `writing` | numbers in bytes, fields from the left, appended fields |
+//! | `items` | [`Items`]: a `Vec` that contracts see as a list |
+#![tactic(auto)]
+
+mod address;
+mod cause;
+mod command;
+mod flow;
+mod items;
+mod memory;
+mod node;
+mod numbers;
+mod range;
+mod reading;
+mod rules;
+mod value;
+mod writing;
+
+pub use address::{Ip4, Socket};
+pub use cause::DropCause;
+pub use command::{Command, MuxBoot};
+pub use flow::{FlowKey, Proto};
+pub use items::Items;
+pub use memory::NoMemory;
+pub use node::NodeId;
+pub use numbers::{read_u16, read_u32, read_u64};
+pub use range::Range;
+pub use reading::{take_u8, take_u16, take_u32, take_u64};
+pub use rules::{LeaseRules, MachineRule, MachineRuleList, PortList, VipRule, VipRuleList};
+pub use value::ValueFault;
+pub use writing::{put_bytes, put_u8, put_u16, put_u32, put_u64};
