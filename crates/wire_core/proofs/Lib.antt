@@ -1,0 +1,6 @@
+pub mod NumberLaws
+pub mod MuxBootLaws
+pub mod ReadingLaws
+pub mod CommandLaws
+pub mod AgainLaws
+pub mod WalkLaws

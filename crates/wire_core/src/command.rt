@@ -1,6 +1,6 @@
-ghost use Rattle.std.specs.Prelude.{◌≡◌, ◌++◌, ◌+◌, ◌≤◌, ◌*◌, OnOk, OnErr, length, vec_len, vec_capacity};
-ghost use Rattle.wire_core.specs.Commands.{command_bytes, IsAllowed};
-ghost use Rattle.wire_core.specs.Views.{command_of};
+ghost use Rattle.std.specs.Prelude.{◌≡◌, ◌++◌, ◌+◌, ◌%◌, ◌≤◌, OnOk, OnErr, length, vec_len, vec_capacity};
+ghost use Rattle.wire_core.specs.Commands.{Granted, command_bytes};
+ghost use Rattle.wire_core.specs.Views.{IsWritable, command_of, pairs_of};
 
 use crate::address::Ip4;
 use crate::memory::NoMemory;
@@ -25,19 +25,42 @@ pub enum Command<'a> {
     },
     /// The muxes named by `pairs` have the row of lease `n`: 1 to 16 of them, each as a mux number of 2 bytes and a
     /// boot of 8 bytes, the mux numbers strictly ascending.
-    Granted { n: u64, pairs: &'a [u8] },
+    Granted {
+        n: u64,
+        pairs: &'a [u8],
+    },
     /// The agent gave lease `n` back.
-    Release { n: u64 },
+    Release {
+        n: u64,
+    },
     /// No mux has the row of lease `n` any more.
-    Freed { n: u64 },
+    Freed {
+        n: u64,
+    },
     /// An agent runs in a new boot.
-    Up { agent: u16, boot: u64 },
+    Up {
+        agent: u16,
+        boot: u64,
+    },
+}
+
+/// Appends a number and pairs of ten bytes each.
+fn put_granted(out: &mut Vec<u8>, n: u64, pairs: &[u8])
+    requires whole { length pairs.now % 10 ≡ 0 }
+    requires few { length pairs.now ≤ 160 }
+    requires room { vec_len out.old + 10 + length pairs.now ≤ vec_capacity out.old }
+    ensures { out.new.items ≡ out.old.items ++ command_bytes (Granted n (pairs_of pairs.now)) }
+{
+    put_u8(out, 2);
+    put_u64(out, n);
+    put_u8(out, (pairs.len() / 10) as u8);
+    put_bytes(out, pairs);
 }
 
 impl<'a> Command<'a> {
     /// Appends the command's one spelling, at most 170 bytes. Without memory `out` stays as it was.
     pub fn write(&self, out: &mut Vec<u8>) -> Result<(), NoMemory>
-        requires { IsAllowed (command_of self.now) }
+        requires { IsWritable self.now }
         ensures ok { OnOk result (out.new.items ≡ out.old.items ++ command_bytes (command_of self.now)) }
         ensures err { OnErr result (out.new.items ≡ out.old.items) }
     {
@@ -57,10 +80,7 @@ impl<'a> Command<'a> {
             }
             Command::Granted { n, pairs } => {
                 out.reserve(10 + pairs.len())?;
-                put_u8(out, 2);
-                put_u64(out, n);
-                put_u8(out, (pairs.len() / 10) as u8);
-                put_bytes(out, pairs);
+                put_granted(out, n, pairs);
             }
             Command::Release { n } => {
                 out.reserve(9)?;
