@@ -2,6 +2,7 @@
 use Rattle.std.proofs.Common.{◌≡◌, ℕ, zero, suc, ◌+◌, ◌≤◌, true, ltb, nat_lt, ◌==◌, if◌then◌else◌, List, [], ◌∷◌, ◌++◌, length, Ok, Err, refl, sym, ap, subst, arith, inl, inr}
 use Rattle.std.specs.List.{flat_map}
 use Rattle.std.proofs.lemmas.Bool.{ltb-false, eqb-true}
+use Rattle.std.proofs.lemmas.List.{length-append}
 use Rattle.std.proofs.lemmas.List.Concat.{flat_map-cons}
 use Rattle.wire_core.specs.declared.command.MuxBoot.{MuxBoot}
 use Rattle.wire_core.specs.declared.reading.FieldFault.TheVariants.{NotAllowed}
@@ -202,3 +203,8 @@ value_is bytes x h e =
     let all : Splits bytes (a.0.0 ∷ flat_map command_bytes x.0) x.1 = splits_then _ _ _ _ _ fa.splits fb.splits in
     let same : a.0.0 ∷ flat_map command_bytes x.0 ≡ value_bytes x.0 = ap (λ (k : ℕ). k ∷ flat_map command_bytes x.0) (sym fb.counted) in
     record { splits = subst (λ (l : List ℕ). Splits bytes l x.1) same all; value = record { some = omega (arith, fa.some, fb.counted); few = omega (arith, fa.few, fb.counted); fields = fb.fields } }
+
+pub value_shorter : (bytes : List ℕ) (x : List LogCommand × List ℕ) → AreBytes bytes → value_at bytes ≡ Ok x → length x.1 ≤ length bytes
+value_shorter bytes x h e =
+    let is = value_is bytes x h e in
+    omega (arith, ap length is.splits.joined, length-append (value_bytes x.0) x.1)

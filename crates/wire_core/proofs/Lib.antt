@@ -4,3 +4,4 @@ pub mod ReadingLaws
 pub mod CommandLaws
 pub mod AgainLaws
 pub mod WalkLaws
+pub mod EntryLaws

@@ -5,3 +5,5 @@ pub mod Ranges
 pub mod Commands
 pub mod Reading
 pub mod Views
+pub mod Entries
+pub mod Spelling

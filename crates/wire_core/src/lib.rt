@@ -9,6 +9,7 @@
 //! | `range` | [`Range`]: eight contiguous ports of a VIP |
 //! | `rules` | [`LeaseRules`]: which ranges may be leased, and by whom |
 //! | `command`, `value` | [`Command`], [`Value`]: what the managers agree on |
+//! | `entry` | [`Entry`]: what a node makes durable |
 //! | `numbers`, `reading`, `writing` | numbers in bytes, fields from the left, appended fields |
 //! | `items` | [`Items`]: a `Vec` that contracts see as a list |
 #![tactic(auto)]
@@ -16,8 +17,10 @@
 mod address;
 mod cause;
 mod command;
+mod entry;
 mod flow;
 mod items;
+mod laws;
 mod memory;
 mod node;
 mod numbers;
@@ -30,13 +33,18 @@ mod writing;
 pub use address::{Ip4, Socket};
 pub use cause::DropCause;
 pub use command::{Command, MuxBoot};
+pub use entry::{BodyList, Entry, EntryBytes};
 pub use flow::{FlowKey, Proto};
 pub use items::Items;
+pub use laws::{entry_spelling, value_spelling};
 pub use memory::NoMemory;
 pub use node::NodeId;
 pub use numbers::{read_u16, read_u32, read_u64};
 pub use range::Range;
 pub use reading::{FieldFault, take_count, take_u8, take_u16, take_u32, take_u64};
 pub use rules::{LeaseRules, MachineRule, MachineRuleList, PortList, VipRule, VipRuleList};
-pub use value::{Value, ValueFault};
+pub use value::{Value, ValueBytes, ValueFault, take_value};
 pub use writing::{put_bytes, put_u8, put_u16, put_u32, put_u64};
+
+#[cfg(test)]
+mod tests;

@@ -5,6 +5,7 @@ ghost use Rattle.wire_core.specs.Views.{command_of, pairs_of};
 
 use crate::address::Ip4;
 use crate::command::{Command, MuxBoot};
+use crate::items::Items;
 use crate::reading::{FieldFault, take_count, take_u8, take_u16, take_u32, take_u64};
 use std::marker::Model;
 
@@ -147,6 +148,9 @@ fn skip_value(bytes: &[u8]) -> Result<&[u8], FieldFault>
     skip_commands(rest, count)
 }
 
+/// The spelling of a value, owned.
+pub type ValueBytes = Items<u8>;
+
 /// A list of 1 to 16 commands, spelled in bytes that it borrows.
 #[derive(Debug, Drop)]
 pub struct Value<'a> {
@@ -217,17 +221,27 @@ impl FieldFault {
     }
 }
 
+/// The value at the front, and the bytes after it.
+pub fn take_value(bytes: &[u8]) -> Result<(Value<'_>, &[u8]), FieldFault>
+    ensures { Gives (λ x. (x.0, x.1.now)) result (value_at bytes.now) }
+{
+    match skip_value(bytes) {
+        Ok(rest) => {
+            let (front, _) = bytes.split_at(bytes.len() - rest.len());
+            Ok((Value { bytes: front }, rest))
+        }
+        Err(fault) => Err(fault),
+    }
+}
+
 impl<'a> Value<'a> {
     /// The value at the front, and its length in bytes. `Short` exactly where the bytes run out first, `Field` with
     /// its offset exactly at the first field that isn't allowed.
     pub fn read(bytes: &'a [u8]) -> Result<(Value<'a>, usize), ValueFault>
         ensures { Gives (λ x. (x.0, x.1)) result (read_value bytes.now) }
     {
-        match skip_value(bytes) {
-            Ok(rest) => {
-                let (front, _) = bytes.split_at(bytes.len() - rest.len());
-                Ok((Value { bytes: front }, front.len()))
-            }
+        match take_value(bytes) {
+            Ok((value, rest)) => Ok((value, bytes.len() - rest.len())),
             Err(fault) => Err(fault.at(bytes.len())),
         }
     }

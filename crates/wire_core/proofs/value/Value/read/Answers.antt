@@ -1,20 +1,9 @@
-use Rattle.std.proofs.Common.{refl, arith}
+use Rattle.std.proofs.Common.{arith}
 use Rattle.wire_core.specs.Numbers.{AreBytes}
-use Rattle.wire_core.proofs.WalkLaws.{value_read}
+use Rattle.wire_core.proofs.CommandLaws.{value_shorter}
 use Rattle.wire_core.proofs.value.Value.read.Goals as goal
 
-pub overflow_sub-bytes : goal.overflow_sub-bytes
-overflow_sub-bytes c =
+pub overflow_sub-result : goal.overflow_sub-result
+overflow_sub-result c =
     let bytes : AreBytes c.args.bytes.now = λ k. omega (arith, c.type_inv.bytes k) in
-    (value_read c.args.bytes.now c.in-Ok.rest.now bytes c.in-Ok.ensures).shorter
-
-pub invariant_of-result : goal.invariant_of-result
-invariant_of-result c =
-    let bytes : AreBytes c.args.bytes.now = λ k. omega (arith, c.type_inv.bytes k) in
-    rw c.split_at.ensures.front (value_read c.args.bytes.now c.in-Ok.rest.now bytes c.in-Ok.ensures).again
-
-pub returns-in-Ok : goal.returns-in-Ok
-returns-in-Ok c =
-    let bytes : AreBytes c.args.bytes.now = λ k. omega (arith, c.type_inv.bytes k) in
-    let v = value_read c.args.bytes.now c.in-Ok.rest.now bytes c.in-Ok.ensures in
-    rw (v.read, c.split_at.ensures.front_len, c.split_at.ensures.front) refl
+    value_shorter c.args.bytes.now (_, c.in-Ok.rest.now) bytes c.in-Ok.ensures
