@@ -1,0 +1,6 @@
+pub mod Faults
+pub mod Telling
+pub mod Disk
+pub mod Link
+pub mod Host
+pub mod Memory
