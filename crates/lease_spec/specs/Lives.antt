@@ -1,5 +1,5 @@
 -- The life of a lease: born by a Reserve, granted, dying, gone. What once happened is for ever.
-use Rattle.std.specs.Prelude.{ℕ, ◌≡◌, ◌<◌, ◌⊎◌, List, [], ◌∷◌, ◌++◌}
+use Rattle.std.specs.Prelude.{ℕ, ◌≡◌, ◌<◌, ◌⊎◌, List, ◌++◌}
 use Rattle.wire_core.specs.declared.command.MuxBoot.{MuxBoot}
 use Rattle.wire_core.specs.declared.rules.LeaseRules.{LeaseRules}
 use Rattle.wire_core.specs.Members.{In, Each}
@@ -62,11 +62,6 @@ AllCaused rules cs = Each (HasCause cs) (history rules cs)
 -- what was done stays done
 abbrev pub Lasts : LeaseRules → List Placed → List Placed → Type 0
 Lasts rules cs ds = (more : List Effect) × (history rules (cs ++ ds) ≡ history rules cs ++ more)
-
--- places rise along the list
-abbrev pub Ascends : List Placed → Type 0
-Ascends [] = Unit {0}
-Ascends (c ∷ cs) = Each (λ d. c.place < d.place) cs × Ascends cs
 
 -- Of two leases on one range the earlier one is gone.
 abbrev pub EarlierIsGone : LeaseRules → List Placed → Type 0

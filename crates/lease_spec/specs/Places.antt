@@ -1,5 +1,6 @@
 -- The place of each command in the log.
-use Rattle.std.specs.Prelude.{ℕ, ◌+◌, ◌*◌, List, [], ◌∷◌, ◌++◌}
+use Rattle.std.specs.Prelude.{ℕ, ◌+◌, ◌*◌, ◌<◌, ◌≤◌, List, [], ◌∷◌, ◌++◌, length}
+use Rattle.wire_core.specs.Members.{Each}
 use Rattle.wire_core.specs.Commands.{LogCommand}
 
 pub record Placed : Type 0 where
@@ -22,3 +23,12 @@ commands_from slot (value ∷ values) = slot_commands slot value ++ commands_fro
 
 abbrev pub commands : List (List LogCommand) → List Placed
 commands values = commands_from 0 values
+
+-- each value has at most 16 commands
+abbrev pub AreShort : List (List LogCommand) → Type 0
+AreShort values = Each (λ value. length value ≤ 16) values
+
+-- places rise along the list
+abbrev pub Ascends : List Placed → Type 0
+Ascends [] = Unit {0}
+Ascends (c ∷ cs) = Each (λ d. c.place < d.place) cs × Ascends cs

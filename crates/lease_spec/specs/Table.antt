@@ -1,6 +1,5 @@
 -- The lease table: what a list of commands leaves, and what each of them does.
-use Rattle.std.specs.Prelude.{ℕ, ◌+◌, Bool, true, false, not, ◌&&◌, ◌||◌, if◌then◌else◌, nat_lt, nat_le, ◌==◌, List, [], ◌∷◌, ◌++◌, map, filter, count_by, Option, Some, None, find, fold}
-use Rattle.std.specs.List.{list_any}
+use Rattle.std.specs.Prelude.{ℕ, ◌≡◌, Bool, true, false, not, ◌&&◌, ◌||◌, if◌then◌else◌, nat_lt, nat_le, ◌==◌, List, [], ◌∷◌, ◌++◌, map, filter, count_by, Option, Some, None, find, fold, length}
 use Rattle.wire_core.specs.declared.address.Ip4.{Ip4}
 use Rattle.wire_core.specs.declared.range.Range.{Range}
 use Rattle.wire_core.specs.declared.rules.MachineRule.{MachineRule}
@@ -13,7 +12,7 @@ use Rattle.lease_spec.specs.declared.row.Outcome.{Outcome}
 use Rattle.lease_spec.specs.declared.row.Outcome.TheVariants as outcome
 use Rattle.lease_spec.specs.declared.effect.Effect.{Effect}
 use Rattle.lease_spec.specs.declared.effect.Effect.TheVariants as effect
-use Rattle.lease_spec.specs.Places.{Placed, commands}
+use Rattle.lease_spec.specs.Places.{Placed, commands, slot_commands}
 use Rattle.lease_spec.specs.Free.{least_free}
 
 abbrev pub is_being : Phase → Bool
@@ -215,3 +214,8 @@ table rules values = (story rules (commands values)).leases
 -- Commands on top of a table: what the code does at a slot.
 unfoldable pub apply : LeaseRules → List Placed → Leases → Done
 apply rules cs t = fold (tell rules) (nothing t) cs
+
+-- A log with one value more: the value's commands on top of its table, what they did after all that was done.
+pub record OneMore (rules : LeaseRules) (values : List (List LogCommand)) (value : List LogCommand) : Type 0 where
+  pub leaves : table rules (values ++ value ∷ []) ≡ (apply rules (slot_commands (length values) value) (table rules values)).leases
+  pub does : history rules (commands (values ++ value ∷ [])) ≡ history rules (commands values) ++ (apply rules (slot_commands (length values) value) (table rules values)).effects

@@ -5,7 +5,9 @@ use wire_core::{Ip4, Items};
 #[derive(Clone, Copy, Debug, PartialEq, Eq)]
 pub enum Effect {
     /// A new row.
-    Reserved { row: Row },
+    Reserved {
+        row: Row,
+    },
     /// No leasable range was without a row.
     Exhausted {
         machine: Ip4,
@@ -21,15 +23,26 @@ pub enum Effect {
         count: u32,
     },
     /// The row is Leased from now on.
-    Granted { row: Row },
+    Granted {
+        row: Row,
+    },
     /// The row is Freeing from now on, since its agent gave it back.
-    Released { row: Row },
+    Released {
+        row: Row,
+    },
     /// The row left.
-    Freed { row: Row },
+    Freed {
+        row: Row,
+    },
     /// The agent's boot is known from now on.
-    Known { agent: u16, boot: u64 },
+    Known {
+        agent: u16,
+        boot: u64,
+    },
     /// The row is Freeing from now on, since its agent runs in a later boot.
-    Cleared { row: Row },
+    Cleared {
+        row: Row,
+    },
 }
 
 pub type EffectList = Items<Effect>;

@@ -9,7 +9,8 @@
 //!
 //! The table says what stands now. The effects say all that was ever done, in order: they are the history of which
 //! every safety fact above speaks. What was done stays done, each effect has its command, a lease that was born stands
-//! or is gone, and of two leases on one range the earlier one is gone: [`lives`].
+//! or is gone, and of two leases on one range the earlier one is gone: [`lives`]. What the least free range is says
+//! [`least_free`], and that a table grows slot by slot says [`slots`].
 #![tactic(auto)]
 
 mod effect;
@@ -17,5 +18,5 @@ mod laws;
 mod row;
 
 pub use effect::{Effect, EffectList};
-pub use laws::{least_free, lives};
+pub use laws::{least_free, lives, slots};
 pub use row::{Outcome, Phase, Row};
