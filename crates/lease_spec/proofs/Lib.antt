@@ -1,0 +1,6 @@
+pub mod MemberLaws
+pub mod CauseLaws
+pub mod FreeLaws
+pub mod LifeLaws
+pub mod PlaceLaws
+pub mod WorkedRun

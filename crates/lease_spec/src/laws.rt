@@ -1,0 +1,32 @@
+ghost use Rattle.std.specs.Prelude.{List};
+ghost use Rattle.wire_core.specs.declared.address.Ip4.{Ip4};
+ghost use Rattle.wire_core.specs.declared.rules.LeaseRules.{LeaseRules};
+ghost use Rattle.lease_spec.specs.declared.row.Row.{Row};
+ghost use Rattle.lease_spec.specs.Free.{IsLeastFree, least_free};
+ghost use Rattle.lease_spec.specs.Lives.{AllCaused, EarlierIsGone, Lasts, StandsOrGone};
+ghost use Rattle.lease_spec.specs.Places.{AreShort, Ascends, Placed, commands};
+ghost use Rattle.lease_spec.specs.Table.{OneMore};
+ghost use Rattle.wire_core.specs.Commands.{LogCommand};
+
+/// The least free range of a VIP: it is leasable and without a row, and none with a lesser start is. Where there is
+/// none, each range of the VIP isn't leasable or has a row.
+pub fn least_free()
+    ensures { (rules : LeaseRules) (rows : List Row) (vip : Ip4) → IsLeastFree rules rows vip (least_free rules rows vip) }
+{}
+
+/// Whatever commands are agreed on: each effect has its command, and what was done stays done. Where their places rise,
+/// each lease that was born stands or is gone, and of two leases on one range the earlier one is gone.
+pub fn lives()
+    ensures caused { (rules : LeaseRules) (cs : List Placed) → AllCaused rules cs }
+    ensures lasts { (rules : LeaseRules) (cs ds : List Placed) → Lasts rules cs ds }
+    ensures stands { (rules : LeaseRules) (cs : List Placed) → Ascends cs → StandsOrGone rules cs }
+    ensures one_row { (rules : LeaseRules) (cs : List Placed) → Ascends cs → EarlierIsGone rules cs }
+{}
+
+/// The places of a log whose values have at most 16 commands rise, so [`lives`] speaks of every such log. A log with
+/// one value more has the table that the value's commands make of its table, and they do their effects after all that
+/// was done: a replica may apply slot by slot.
+pub fn slots()
+    ensures rise { (values : List (List LogCommand)) → AreShort values → Ascends (commands values) }
+    ensures more { (rules : LeaseRules) (values : List (List LogCommand)) (value : List LogCommand) → OneMore rules values value }
+{}

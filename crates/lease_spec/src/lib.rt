@@ -1,0 +1,22 @@
+//! What the log means: the lease table as a fold of commands at places, and all that the commands did.
+//!
+//! | subject | file of `specs/` |
+//! |---|---|
+//! | places of commands in a log | `Places` |
+//! | the least free range of a VIP | `Free` |
+//! | the table, one command, a list of commands | `Table` |
+//! | the life of a lease: born, granted, dying, gone | `Lives` |
+//!
+//! The table says what stands now. The effects say all that was ever done, in order: they are the history of which
+//! every safety fact above speaks. What was done stays done, each effect has its command, a lease that was born stands
+//! or is gone, and of two leases on one range the earlier one is gone: [`lives`]. What the least free range is says
+//! [`least_free`], and that a table grows slot by slot says [`slots`].
+#![tactic(auto)]
+
+mod effect;
+mod laws;
+mod row;
+
+pub use effect::{Effect, EffectList};
+pub use laws::{least_free, lives, slots};
+pub use row::{Outcome, Phase, Row};
