@@ -72,11 +72,11 @@ written_in_file buffer piece at len le inside =
 
     rest : take (max len (at + length piece) - (at + length piece)) (drop (at + length piece) buffer) ≡ drop (at + length piece) (take len buffer)
     rest = elim (cases_lt (at + length piece) len) [
-        | inl before ↦ ap (λ k. take k (drop (at + length piece) buffer)) {x = max len (at + length piece) - (at + length piece)} {y = len - (at + length piece)} (omega (arith, before))
-            ∙ sym (behind buffer (at + length piece) len (omega (arith, before)))
-        | inr past ↦ ap (λ k. take k (drop (at + length piece) buffer)) {x = max len (at + length piece) - (at + length piece)} {y = 0} (omega (arith, past))
-            ∙ sym (drop_all (at + length piece) (take len buffer) (omega (arith, past, length-take-le len buffer inside)))
-      ]
+      | inl before ↦ ap (λ k. take k (drop (at + length piece) buffer)) {x = max len (at + length piece) - (at + length piece)} {y = len - (at + length piece)} (omega (arith, before))
+          ∙ sym (behind buffer (at + length piece) len (omega (arith, before)))
+      | inr past ↦ ap (λ k. take k (drop (at + length piece) buffer)) {x = max len (at + length piece) - (at + length piece)} {y = 0} (omega (arith, past))
+          ∙ sym (drop_all (at + length piece) (take len buffer) (omega (arith, past, length-take-le len buffer inside)))
+    ]
 
 -- the length of the buffer with the piece
 pub written_long : (buffer piece : List ℕ) (at : ℕ) → at ≤ length buffer → length (take at buffer ++ piece ++ drop (at + length piece) buffer) ≡ max (length buffer) (at + length piece)

@@ -17,9 +17,9 @@ length-first_bytes byte (suc n) = length_push (first_bytes byte n) (byte n) ∙ 
 pub get_or-first_bytes : (byte : ℕ → ℕ) (n k : ℕ) → k < n → get_or (first_bytes byte n) k 0 ≡ byte k
 get_or-first_bytes byte zero k lt = absurd (omega (arith, lt))
 get_or-first_bytes byte (suc n) k lt = elim (cases_lt k n) [
-    | inl before ↦ get_or_append_left (first_bytes byte n) (byte n ∷ []) 0 k (omega (arith, before, length-first_bytes byte n)) ∙ get_or-first_bytes byte n k before
-    | inr last ↦ get_or_push (first_bytes byte n) (byte n) 0 k (omega (arith, lt, last, length-first_bytes byte n)) ∙ ap byte {x = n} {y = k} (omega (arith, lt, last))
-  ]
+  | inl before ↦ get_or_append_left (first_bytes byte n) (byte n ∷ []) 0 k (omega (arith, before, length-first_bytes byte n)) ∙ get_or-first_bytes byte n k before
+  | inr last ↦ get_or_push (first_bytes byte n) (byte n) 0 k (omega (arith, lt, last, length-first_bytes byte n)) ∙ ap byte {x = n} {y = k} (omega (arith, lt, last))
+]
 
 module _ (f : FileState) (pick : List ℕ) where
   pub length-picked : length (picked f pick) ≡ picked_length f pick
@@ -50,9 +50,9 @@ module _ (f : FileState) (pick : List ℕ) where
 
       tail : (k : ℕ) → k < picked_length f pick → nat_le (length f.bytes) k ≡ nat_le (min len (picked_length f pick)) k
       tail k lt = elim (cases_lt k len) [
-          | inl before ↦ lt-leb (length f.bytes) k (omega (arith, before, file_long)) ∙ sym (lt-leb (min len (picked_length f pick)) k (omega (arith, before, lt)))
-          | inr after ↦ le-leb (length f.bytes) k (omega (arith, after, file_long)) ∙ sym (le-leb (min len (picked_length f pick)) k (omega (arith, after)))
-        ]
+        | inl before ↦ lt-leb (length f.bytes) k (omega (arith, before, file_long)) ∙ sym (lt-leb (min len (picked_length f pick)) k (omega (arith, before, lt)))
+        | inr after ↦ le-leb (length f.bytes) k (omega (arith, after, file_long)) ∙ sym (le-leb (min len (picked_length f pick)) k (omega (arith, after)))
+      ]
 
       all : IsLaid (λ k. is_free f k) pick (take (picked_length f pick) buffer) new
       all = laid_same (λ k. list_any (is_in k) f.unsynced || nat_le (min len (picked_length f pick)) k) (λ k. is_free f k) pick (take (picked_length f pick) buffer) new
@@ -63,12 +63,12 @@ module _ (f : FileState) (pick : List ℕ) where
 
       chosen : (k : ℕ) → k < picked_length f pick → (if is_free f k then get_or pick k 0 else get_or (take (picked_length f pick) buffer) k 0) ≡ picked_byte f pick k
       chosen k lt = elim (cases_Bool (is_free f k)) [
-          | inl free ↦ cond-true (is_free f k) _ _ free ∙ sym (cond-true (is_free f k) _ _ free)
-          | inr bound ↦ cond-false (is_free f k) _ _ bound
-              ∙ get_or-take (picked_length f pick) buffer k 0 lt
-              ∙ sym (ap (λ (l : List ℕ). get_or l k 0) is ∙ get_or-take len buffer k 0 (omega (arith, leb-false (length f.bytes) k (or_parts (is_unsynced f k) (nat_le (length f.bytes) k) bound).1, file_long)))
-              ∙ sym (cond-false (is_free f k) _ _ bound)
-        ]
+        | inl free ↦ cond-true (is_free f k) _ _ free ∙ sym (cond-true (is_free f k) _ _ free)
+        | inr bound ↦ cond-false (is_free f k) _ _ bound
+            ∙ get_or-take (picked_length f pick) buffer k 0 lt
+            ∙ sym (ap (λ (l : List ℕ). get_or l k 0) is ∙ get_or-take len buffer k 0 (omega (arith, leb-false (length f.bytes) k (or_parts (is_unsynced f k) (nat_le (length f.bytes) k) bound).1, file_long)))
+            ∙ sym (cond-false (is_free f k) _ _ bound)
+      ]
 
 pub image_is_picked : (f : FileState) (image : List ℕ) → IsImage f image → picked f image ≡ image
 image_is_picked f image is = same_number_lists (picked f image) image long
@@ -79,7 +79,7 @@ image_is_picked f image is = same_number_lists (picked f image) image long
 
     chosen : (k : ℕ) → k < length image → picked_byte f image k ≡ get_or image k 0
     chosen k lt = elim (cases_Bool (is_free f k)) [
-        | inl free ↦ cond-true (is_free f k) _ _ free
-        | inr bound ↦ let parts = or_parts (is_unsynced f k) (nat_le (length f.bytes) k) bound in
-            cond-false (is_free f k) _ _ bound ∙ sym (is.stays k (leb-false (length f.bytes) k parts.1) lt parts.0)
-      ]
+      | inl free ↦ cond-true (is_free f k) _ _ free
+      | inr bound ↦ let parts = or_parts (is_unsynced f k) (nat_le (length f.bytes) k) bound in
+          cond-false (is_free f k) _ _ bound ∙ sym (is.stays k (leb-false (length f.bytes) k parts.1) lt parts.0)
+    ]

@@ -6,5 +6,4 @@ ghost use Rattle.disk_model.specs.Picked.{picked};
 /// A law: each image is had by some pick, namely by itself.
 pub fn each_image_is_picked()
     ensures { (f : FileState) (image : List ℕ) → IsImage f image → picked f image ≡ image }
-{
-}
+{}

@@ -13,6 +13,8 @@ mod fuse;
 mod image;
 mod memory;
 mod state;
+#[cfg(test)]
+mod tests;
 
 pub use fuse::Fuse;
 pub use image::each_image_is_picked;

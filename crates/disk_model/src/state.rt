@@ -14,7 +14,9 @@ pub enum Replaced {
         old: Vec<u8>,
     },
     /// The call was a sync: these ranges had been written before it.
-    Ranges { unsynced: Vec<Span> },
+    Ranges {
+        unsynced: Vec<Span>,
+    },
 }
 
 /// What a call replaced, and the least and the greatest length before it.

@@ -16,7 +16,7 @@ loop-range-preserved c =
     let to : c.min-to.result ≡ min s.to (length bytes) = c.min-to.ensures in
     let from : c.min.result ≡ min s.from (min s.to (length bytes)) = c.min.ensures ∙ ap (λ k. min s.from k) to in
     let laid = subst (λ k. IsOverlaid k (min s.to (length bytes)) c.args.pick.now bytes c.overlay.new.bytes) from
-        (subst (λ k. IsOverlaid c.min.result k c.args.pick.now bytes c.overlay.new.bytes) to c.overlay.ensures) in
+    (subst (λ k. IsOverlaid c.min.result k c.args.pick.now bytes c.overlay.new.bytes) to c.overlay.ensures) in
     ranges_more c.args.ranges.now c.loop-range.range-index none c.args.pick.now c.args.bytes.now bytes c.overlay.new.bytes c.loop-range-test.true c.loop-range.invariant laid
 
 pub returns : goal.returns

@@ -22,8 +22,8 @@ returns-clause-left c =
     let cut : c.deref_mut.result.now ≡ take (picked_length f pick) d.buffer.items = c.deref_mut.ensures.value ∙ short ∙ ap (λ k. take k d.buffer.items) left in
     let end : c.min.result ≡ min d.len (picked_length f pick) = c.min.ensures ∙ ap (λ k. min d.len k) left in
     let laid = subst (λ l. IsLaid (λ k. list_any (is_in k) d.unsynced.items || nat_le (min d.len (picked_length f pick)) k) pick l c.lay.new.bytes) cut
-        (subst (λ l. IsLaid (λ k. list_any (is_in k) l || nat_le (min d.len (picked_length f pick)) k) pick c.deref_mut.result.now c.lay.new.bytes) spans
-            (subst (λ n. IsLaid (λ k. list_any (is_in k) c.deref.result.now || nat_le n k) pick c.deref_mut.result.now c.lay.new.bytes) end c.lay.ensures)) in
+    (subst (λ l. IsLaid (λ k. list_any (is_in k) l || nat_le (min d.len (picked_length f pick)) k) pick c.deref_mut.result.now c.lay.new.bytes) spans
+    (subst (λ n. IsLaid (λ k. list_any (is_in k) c.deref.result.now || nat_le n k) pick c.deref_mut.result.now c.lay.new.bytes) end c.lay.ensures)) in
     let is : c.lay.new.bytes ≡ picked f pick = picked_from_laid f pick d.buffer.items c.lay.new.bytes d.len refl d.high refl laid in
     let whole : (with_items c.truncate.new.self c.lay.new.bytes).items ≡ c.lay.new.bytes = take_at c.lay.new.bytes (drop (length c.lay.new.bytes) c.truncate.new.self.items) c.truncate.new.self.len (search rules) in
     let buffer = whole ∙ is in
