@@ -174,8 +174,8 @@ still_moments bound (Some t) new still (inl same) =
 still_moments bound (Some t) new still (inr m) =
     let P = IsAsBefore bound t.now.bytes in
     both (Some t) (synced (Some t)) new P P P (λ c p. p) (λ c p. p)
-        (here P t.now t.now.bytes still refl, record { since = kept t.now.bytes ∷ []; grown = refl; each = (here P (kept t.now.bytes) t.now.bytes refl refl, tt) })
-        m
+    (here P t.now t.now.bytes still refl, record { since = kept t.now.bytes ∷ []; grown = refl; each = (here P (kept t.now.bytes) t.now.bytes refl refl, tt) })
+    m
 
 pub opened_stands : (bound end : ℕ) (old new : Option History) (bs : List (List ℕ)) → OpenedAs bound old new bs end → Stands bound end new
 opened_stands bound end None None bs opened = tt

@@ -6,3 +6,4 @@ pub mod Append
 pub mod Parts
 pub mod Loads
 pub mod Begin
+pub mod Whole

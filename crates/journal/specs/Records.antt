@@ -9,13 +9,13 @@ pub record IsBody (body : List ℕ) : Type 0 where
   pub most : length body ≤ 65536
   pub entry : is_entry body ≡ true
 
--- each body behind an open gate and its length
+-- an open gate, a length and a body for each
 abbrev pub records : List (List ℕ) → List ℕ
 records [] = []
-records (b ∷ bs) = 1 ∷ (size_bytes (length b) ++ b) ++ records bs
+records (b ∷ bs) = (1 ∷ (size_bytes (length b) ++ b)) ++ records bs
 
--- The file is the records of these bodies, an ending gate, which isn't open, and whatever follows; the gate is within the
--- bound.
+-- The file is the records of these bodies, an ending gate, which isn't open, and whatever follows; the ending gate is
+-- within the bound.
 pub record IsRecords (bound : ℕ) (file : List ℕ) (bs : List (List ℕ)) : Type 0 where
   pub gate : ℕ
   pub tail : List ℕ

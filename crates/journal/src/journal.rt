@@ -43,7 +43,13 @@ fn stage<D: Disk>(disk: &mut D, end: u64, body: &[u8], room: &mut [u8]) -> Resul
 }
 
 // The two steps of an append.
-fn add<D: Disk>(disk: &mut D, bound: u32, end: u64, body: &[u8], room: &mut [u8]) -> Result<(), Failed>
+fn add<D: Disk>(
+    disk: &mut D,
+    bound: u32,
+    end: u64,
+    body: &[u8],
+    room: &mut [u8],
+) -> Result<(), Failed>
     requires file { Stands bound end (D.history disk.old) }
     requires begun { 1 ≤ end }
     requires some { 1 ≤ length body.now }

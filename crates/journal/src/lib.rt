@@ -23,12 +23,14 @@
 mod durable;
 mod fault;
 mod journal;
+mod laws;
 mod opening;
 mod reading;
 mod record;
-
-
+#[cfg(test)]
+mod tests;
 
 pub use fault::{JournalFault, Refused};
 pub use journal::Journal;
+pub use laws::{file_is_its_records, records_are_read};
 pub use record::MAX_BODY;

@@ -25,10 +25,10 @@ pub returns-clause-file : goal.returns-clause-file
 returns-clause-file g c =
     let r = c.requires in
     on_ok c.write_through.result _ _ (λ written. stands_new c.args.bound c.args.end c.args.body.now r.some r.size r.entry r.bounded (g.D.Disk.history c.args.disk.now) _ _ r.file (c.stage.ensures.moments, c.in_ok-stage.ensures.staged) (c.write_through.ensures.moments, written))
-        c.write_through.ensures.written
+    c.write_through.ensures.written
 
 pub returns-clause-added : goal.returns-clause-added
 returns-clause-added g c =
     let r = c.requires in
     on_ok c.write_through.result _ _ (λ written. adds_new c.args.bound c.args.end c.args.body.now r.some r.size r.entry r.bounded (g.D.Disk.history c.args.disk.now) _ _ r.file (c.stage.ensures.moments, c.in_ok-stage.ensures.staged) (c.write_through.ensures.moments, written))
-        c.write_through.ensures.written
+    c.write_through.ensures.written
