@@ -1,10 +1,11 @@
 -- The IPv4 header (RFC 791, section 3.1).
-use Rattle.std.specs.Prelude.{ℕ, ◌*◌, ◌/◌, ◌%◌, Bool, not, ◌||◌, ◌==◌, nat_lt, List, length, take, drop, slice_index, Option, Some, None, Result, Ok, Err, if◌then◌else◌}
+use Rattle.std.specs.Prelude.{◌≡◌, ◌≤◌, ℕ, ◌+◌, ◌*◌, ◌/◌, ◌%◌, Bool, true, false, not, ◌||◌, ◌==◌, nat_lt, List, [], ◌∷◌, ◌++◌, length, take, drop, slice_index, Option, Some, None, Result, Ok, Err, if◌then◌else◌}
 use Rattle.wire_core.specs.declared.address.Ip4.{Ip4}
 use Rattle.packet_spec.specs.declared.fault.IpFault.{IpFault}
 use Rattle.packet_spec.specs.declared.fault.IpFault.TheVariants.{Short, Version, HeaderLength, TotalLength, HeaderSum, Fragment}
-use Rattle.packet_spec.specs.Words.{word_at, address_at}
-use Rattle.packet_spec.specs.Sums.{ones_sum}
+use Rattle.packet_spec.specs.declared.header.Ip4Header.{Ip4Header}
+use Rattle.packet_spec.specs.Words.{word_at, address_at, word_bytes, address_bytes}
+use Rattle.packet_spec.specs.Sums.{ones_sum, checksum}
 
 -- the upper four bits of the first byte
 abbrev pub version : List ℕ → ℕ
@@ -56,6 +57,12 @@ destination_of p = address_at p 16
 abbrev pub header_of : List ℕ → List ℕ
 header_of p = take (header_length p) p
 
+-- the bytes are a whole packet: a header of at least 20 bytes, and as many bytes as the total length says
+pub record IsWhole (p : List ℕ) : Type 0 where
+  pub header : 20 ≤ header_length p
+  pub within : header_length p ≤ total_length p
+  pub total : length p ≡ total_length p
+
 -- the packet up to its total length
 unfoldable pub whole : List ℕ → List ℕ
 whole p = take (total_length p) p
@@ -95,3 +102,18 @@ unless_fault (Some fault) value = Err fault
 -- reading a packet's header: the packet up to its total length, or the first fault
 unfoldable pub read_ip : List ℕ → Result (List ℕ) IpFault
 read_ip p = unless_fault (ip_fault p) (whole p)
+
+-- the byte of the flag 'don't fragment'
+abbrev pub df_byte : Bool → ℕ
+df_byte true = 64
+df_byte false = 0
+
+-- a header of five words with this checksum: version 4 and IHL 5 make the first byte
+abbrev pub header_with : Ip4Header → ℕ → List ℕ
+header_with h sum =
+    69 ∷ h.tos ∷ word_bytes h.total ++ word_bytes h.id ++ df_byte h.df ∷ 0 ∷ h.ttl ∷ h.proto ∷ word_bytes sum
+    ++ address_bytes h.src ++ address_bytes h.dst
+
+-- a header with the right checksum, which is worked out with 0 in its place
+unfoldable pub header_bytes : Ip4Header → List ℕ
+header_bytes h = header_with h (checksum (header_with h 0))

@@ -1,13 +1,13 @@
 -- TCP segments (RFC 9293, section 3.1) and UDP datagrams (RFC 768).
-use Rattle.std.specs.Prelude.{ℕ, ◌/◌, ◌%◌, Bool, false, not, ◌&&◌, ◌||◌, ◌==◌, nat_lt, List, [], ◌∷◌, ◌++◌, length, take, slice_index, Option, Some, None, Result, if◌then◌else◌}
+use Rattle.std.specs.Prelude.{ℕ, ◌≤◌, ◌/◌, ◌%◌, Bool, false, not, ◌&&◌, ◌||◌, ◌==◌, nat_lt, List, [], ◌∷◌, ◌++◌, length, take, slice_index, Option, Some, None, Result, if◌then◌else◌}
 use Rattle.wire_core.specs.declared.address.Ip4.{Ip4}
 use Rattle.wire_core.specs.declared.flow.Proto.{Proto}
 use Rattle.wire_core.specs.declared.flow.Proto.TheVariants.{Tcp, Udp}
 use Rattle.packet_spec.specs.declared.fault.SegmentFault.{SegmentFault}
 use Rattle.packet_spec.specs.declared.fault.SegmentFault.TheVariants.{Short, DataOffset, Length, Sum}
-use Rattle.packet_spec.specs.Words.{word_at}
+use Rattle.packet_spec.specs.Words.{word_at, word_bytes, address_bytes}
 use Rattle.packet_spec.specs.Sums.{ones_sum}
-use Rattle.packet_spec.specs.Options.{data_words, data_offset}
+use Rattle.packet_spec.specs.Options.{data_words, data_offset, mss_at}
 use Rattle.packet_spec.specs.Headers.{unless_fault}
 
 -- a segment, with the protocol that says how to read it
@@ -47,13 +47,6 @@ is_rst Udp s = false
 abbrev pub is_ack : Proto → List ℕ → Bool
 is_ack Tcp s = slice_index s 13 / 16 % 2 == 1
 is_ack Udp s = false
-
--- a number in two bytes, and in four
-abbrev pub word_bytes : ℕ → List ℕ
-word_bytes n = n / 256 ∷ n % 256 ∷ []
-
-abbrev pub address_bytes : Ip4 → List ℕ
-address_bytes ip = word_bytes (ip.0 / 65536) ++ word_bytes (ip.0 % 65536)
 
 -- the pseudo-header: both addresses, a zero byte, the protocol, the segment's length
 unfoldable pub pseudo_header : Proto → Ip4 → Ip4 → ℕ → List ℕ
@@ -97,6 +90,26 @@ udp_fault src dst s =
 unfoldable pub segment_fault : Proto → Ip4 → Ip4 → List ℕ → Option SegmentFault
 segment_fault Tcp src dst s = tcp_fault src dst s
 segment_fault Udp src dst s = udp_fault src dst s
+
+-- the fewest bytes of a segment
+abbrev pub least_length : Proto → ℕ
+least_length Tcp = 20
+least_length Udp = 8
+
+-- where the options of a segment end; UDP has none
+abbrev pub options_end : Proto → List ℕ → ℕ
+options_end Tcp s = data_offset s
+options_end Udp s = 0
+
+-- a segment has its fixed fields, and its options within it
+pub record HasFields (proto : Proto) (s : List ℕ) : Type 0 where
+  pub fields : least_length proto ≤ length s
+  pub options : options_end proto s ≤ length s
+
+-- where a segment carries its maximum segment size; UDP has none
+abbrev pub segment_mss : Proto → List ℕ → Option ℕ
+segment_mss Tcp s = mss_at s
+segment_mss Udp s = None
 
 -- the bytes of a segment: all for TCP, as many as its length says for UDP
 abbrev pub segment_bytes : Proto → List ℕ → List ℕ

@@ -1,5 +1,5 @@
 -- Bytes by their place, and 16-bit words of two bytes, the higher byte first (RFC 791, appendix B).
-use Rattle.std.specs.Prelude.{ℕ, ◌+◌, ◌*◌, ◌/◌, ◌%◌, List, slice_index, slice_set}
+use Rattle.std.specs.Prelude.{ℕ, ◌+◌, ◌*◌, ◌/◌, ◌%◌, List, [], ◌∷◌, ◌++◌, slice_index, slice_set}
 use Rattle.wire_core.specs.declared.address.Ip4.{Ip4}
 
 -- the word at a place
@@ -17,3 +17,11 @@ put_word p at word = slice_set (slice_set p at (word / 256)) (at + 1) (word % 25
 -- the bytes with this address at this place; every other byte stays
 abbrev pub put_address : List ℕ → ℕ → Ip4 → List ℕ
 put_address p at ip = put_word (put_word p at (ip.0 / 65536)) (at + 2) (ip.0 % 65536)
+
+-- a word in two bytes
+abbrev pub word_bytes : ℕ → List ℕ
+word_bytes word = word / 256 ∷ word % 256 ∷ []
+
+-- an address in four
+abbrev pub address_bytes : Ip4 → List ℕ
+address_bytes ip = word_bytes (ip.0 / 65536) ++ word_bytes (ip.0 % 65536)

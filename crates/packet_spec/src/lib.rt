@@ -1,5 +1,6 @@
 //! What an IPv4 packet with a TCP or UDP segment is, as definitions: the words in which every contract on packets
-//! is written. No code stands here but the types that those words share with the code above.
+//! is written. The only code here is the types that these definitions share with the code above, and the reading and
+//! writing of a 16-bit word and an address.
 //!
 //! | file of `specs/` | what it defines | standard |
 //! |---|---|---|
@@ -15,9 +16,13 @@
 #![tactic(auto)]
 
 mod fault;
+mod header;
 mod layout;
 mod options;
+mod words;
 
 pub use fault::{IpFault, PacketFault, SegmentFault};
+pub use header::Ip4Header;
 pub use layout::Layout;
 pub use options::OptionStep;
+pub use words::{address_at, address_words, put_address, put_word, word_at, word_bytes};
