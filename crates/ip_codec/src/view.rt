@@ -127,7 +127,8 @@ impl<'a> Ip4View<'a> {
 
     /// What follows the header, up to the total length.
     pub fn payload(&self) -> &'a [u8]
-        ensures { result.now ≡ payload_of self.now }
+        ensures bytes { result.now ≡ payload_of self.now }
+        ensures within { length result.now ≤ 65535 }
     {
         let length = header_length(self.bytes);
         &self.bytes[length..]

@@ -57,9 +57,9 @@ clamp l p =
     then lower_word (placed l.start (mss_at (segment_in l p))) p
     else p
 
--- a word set to the checksum of bytes in which it counts as zero
+-- a checksum computed over bytes that have 0 in its place
 abbrev pub put_checksum : ℕ → (List ℕ → ℕ) → List ℕ → List ℕ
-put_checksum at sum p = put_word p at (sum (put_word p at 0))
+put_checksum at sum p = put_word (put_word p at 0) at (sum (put_word p at 0))
 
 -- the header checksum computed (RFC 791, section 3.1)
 unfoldable pub put_header_sum : Layout → List ℕ → List ℕ

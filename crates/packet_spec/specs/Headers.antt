@@ -62,6 +62,7 @@ pub record IsWhole (p : List ℕ) : Type 0 where
   pub header : 20 ≤ header_length p
   pub within : header_length p ≤ total_length p
   pub total : length p ≡ total_length p
+  pub most : length p ≤ 65535
 
 -- the packet up to its total length
 unfoldable pub whole : List ℕ → List ℕ

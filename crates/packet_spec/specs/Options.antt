@@ -1,6 +1,6 @@
 -- The options of a TCP header (RFC 9293, section 3.2): kind 0 ends them, kind 1 is one byte of padding, and any
 -- other kind is followed by its length, which counts both bytes.
-use Rattle.std.specs.Prelude.{ℕ, zero, suc, ◌+◌, ◌*◌, ◌/◌, Bool, ◌&&◌, ◌||◌, ◌==◌, nat_lt, nat_le, List, slice_index, Option, Some, None, if◌then◌else◌}
+use Rattle.std.specs.Prelude.{◌≤◌, ℕ, zero, suc, ◌+◌, ◌*◌, ◌/◌, Bool, ◌&&◌, ◌||◌, ◌==◌, nat_lt, nat_le, List, slice_index, Option, Some, None, if◌then◌else◌}
 use Rattle.packet_spec.specs.declared.options.OptionStep.{OptionStep}
 use Rattle.packet_spec.specs.declared.options.OptionStep.TheVariants.{Stop, Size, Next}
 
@@ -24,6 +24,12 @@ option_at s end at =
     else if is_broken s end at then Stop
     else if (slice_index s at == 2) && (slice_index s (at + 1) == 4) then Size (at + 2)
     else Next (at + slice_index s (at + 1))
+
+-- a value that was found has both its bytes
+abbrev pub IsWithin : OptionStep → ℕ → Type 0
+IsWithin Stop n = Unit {0}
+IsWithin (Size at) n = at + 2 ≤ n
+IsWithin (Next at) n = Unit {0}
 
 -- the value that was found, or what is found from the next place on
 abbrev pub follow : (ℕ → Option ℕ) → OptionStep → Option ℕ

@@ -8,7 +8,7 @@ use Rattle.packet_spec.specs.declared.fault.PacketFault.{PacketFault}
 use Rattle.packet_spec.specs.declared.fault.PacketFault.TheVariants.{Ip, NotTransport, Segment}
 use Rattle.packet_spec.specs.declared.fault.SegmentFault.{SegmentFault}
 use Rattle.packet_spec.specs.Headers.{ip_fault, protocol_of, source_of, destination_of, payload_of, whole, unless_fault}
-use Rattle.packet_spec.specs.Segments.{segment_fault, source_port, destination_port, is_syn, is_rst, is_ack}
+use Rattle.packet_spec.specs.Segments.{segment_fault, segment_bytes, source_port, destination_port, is_syn, is_rst, is_ack}
 
 -- the transport of a protocol number
 abbrev pub proto_of : ℕ → Option Proto
@@ -41,22 +41,26 @@ packet_fault p = header_first (ip_fault p) (transport_fault (proto_of (protocol_
 unfoldable pub read_packet : List ℕ → Result (List ℕ) PacketFault
 read_packet p = unless_fault (packet_fault p) (whole p)
 
--- the five numbers of a packet without fault
+-- the segment of a packet without fault
+abbrev pub segment_of : List ℕ → List ℕ
+segment_of p = segment_bytes (carried p) (payload_of p)
+
+-- its five numbers
 unfoldable pub key_of : List ℕ → FlowKey
 key_of p = record {
   src = source_of p;
   dst = destination_of p;
-  sport = source_port (payload_of p);
-  dport = destination_port (payload_of p);
+  sport = source_port (segment_of p);
+  dport = destination_port (segment_of p);
   proto = carried p;
 }
 
 -- its control bits
 unfoldable pub has_syn : List ℕ → Bool
-has_syn p = is_syn (carried p) (payload_of p)
+has_syn p = is_syn (carried p) (segment_of p)
 
 unfoldable pub has_ack : List ℕ → Bool
-has_ack p = is_ack (carried p) (payload_of p)
+has_ack p = is_ack (carried p) (segment_of p)
 
 unfoldable pub has_rst : List ℕ → Bool
-has_rst p = is_rst (carried p) (payload_of p)
+has_rst p = is_rst (carried p) (segment_of p)

@@ -1,6 +1,6 @@
 // The options of a TCP header (RFC 9293, section 3.2).
-ghost use Rattle.std.specs.Prelude.{◌≡◌, ◌≤◌, ◌+◌, ◌*◌, length};
-ghost use Rattle.packet_spec.specs.Options.{data_offset, option_at, mss_at};
+ghost use Rattle.std.specs.Prelude.{◌≡◌, ◌≤◌, ◌+◌, ◌*◌, length, IfSome};
+ghost use Rattle.packet_spec.specs.Options.{data_offset, option_at, IsWithin, mss_at};
 
 use packet_spec::OptionStep;
 
@@ -28,7 +28,8 @@ pub(crate) fn data_offset(segment: &[u8]) -> usize
 #[tactic(auto, unfolding(packet_spec::specs::Options::option_at))]
 fn option_at(segment: &[u8], end: usize, at: usize) -> OptionStep
     requires { end ≤ length segment.now }
-    ensures { result ≡ option_at segment.now end at }
+    ensures step { result ≡ option_at segment.now end at }
+    ensures within { IsWithin result (length segment.now) }
 {
     if end <= at || segment[at] == END {
         return OptionStep::Stop;
@@ -51,7 +52,8 @@ fn option_at(segment: &[u8], end: usize, at: usize) -> OptionStep
 pub fn mss_at(segment: &[u8]) -> Option<usize>
     requires long { 20 ≤ length segment.now }
     requires within { data_offset segment.now ≤ length segment.now }
-    ensures { result ≡ mss_at segment.now }
+    ensures place { result ≡ mss_at segment.now }
+    ensures room { IfSome result (λ at. at + 2 ≤ length segment.now) }
 {
     let end = data_offset(segment);
     let mut at = 20;

@@ -1,4 +1,4 @@
-ghost use Rattle.std.specs.Prelude.{◌≡◌, ◌+◌, ◌*◌, ◌≤◌, length};
+ghost use Rattle.std.specs.Prelude.{◌≡◌, ◌+◌, ◌*◌, ◌≤◌, length, IfSome};
 ghost use Rattle.wire_core.specs.declared.flow.Proto.TheVariants.{Tcp, Udp};
 ghost use Rattle.packet_spec.specs.Segments.{read_segment, source_port, destination_port, is_syn, is_ack, is_rst, segment_mss, udp_length};
 
@@ -136,7 +136,8 @@ impl<'a> Segment<'a> {
     /// The place, from the segment's first byte, of the value of the first option of kind 2 and length 4. `None` for
     /// UDP, and where the walk over the options ends without one.
     pub fn mss_at(&self) -> Option<usize>
-        ensures { result ≡ segment_mss self.now.proto self.now.bytes }
+        ensures place { result ≡ segment_mss self.now.proto self.now.bytes }
+        ensures room { IfSome result (λ at. at + 2 ≤ length self.now.bytes) }
     {
         match self.proto {
             Proto::Tcp => mss_at(self.bytes),
