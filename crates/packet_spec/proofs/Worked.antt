@@ -5,7 +5,7 @@ use Rattle.packet_spec.specs.Headers.{ip_fault, payload_of, whole}
 use Rattle.packet_spec.specs.Segments.{pseudo_header, segment_fault}
 use Rattle.packet_spec.specs.Options.{option_at, mss_from, mss_at}
 use Rattle.packet_spec.specs.Packets.{packet_fault}
-use Rattle.packet_spec.specs.Edits.{layout_of, put_source, put_destination, lower_ttl, clamp, put_header_sum, put_segment_sum, translate_source, translate_destination, translated, restored}
+use Rattle.packet_spec.specs.Edits.{layout_of, put_source, put_destination, put_ttl, clamp, put_header_sum, put_segment_sum, translate_source, translate_destination, translated, restored}
 
 -- a UDP packet of 10.1.0.4 port 5000 to 198.51.100.7 port 53
 unfoldable p1 : List ℕ
@@ -44,7 +44,7 @@ unfolding translated translate_source whole layout_of put_source clamp put_heade
 p1_translated = refl
 
 p3_restored : restored (record { 0 = 167837700 }) 5000 1 p3 ≡ p5
-unfolding restored translate_destination whole layout_of put_destination lower_ttl clamp put_header_sum put_segment_sum checksum ones_sum ones_add pseudo_header p3 p5
+unfolding restored translate_destination whole layout_of put_destination put_ttl clamp put_header_sum put_segment_sum checksum ones_sum ones_add pseudo_header p3 p5
 p3_restored = refl
 
 syn_translated : translated (record { 0 = 3221225994 }) 1024 syn ≡ syn_out

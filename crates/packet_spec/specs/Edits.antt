@@ -6,7 +6,7 @@ use Rattle.wire_core.specs.declared.flow.Proto.TheVariants.{Tcp, Udp}
 use Rattle.packet_spec.specs.declared.layout.Layout.{Layout}
 use Rattle.packet_spec.specs.Words.{word_at, put_word, put_address}
 use Rattle.packet_spec.specs.Sums.{checksum}
-use Rattle.packet_spec.specs.Headers.{header_length, total_length, source_of, destination_of, whole}
+use Rattle.packet_spec.specs.Headers.{header_length, total_length, ttl_of, source_of, destination_of, whole}
 use Rattle.packet_spec.specs.Segments.{sum_place, covered, is_syn}
 use Rattle.packet_spec.specs.Options.{mss_at}
 use Rattle.packet_spec.specs.Packets.{carried}
@@ -32,9 +32,9 @@ put_source l ip port p = put_word (put_address p 12 ip) l.start port
 unfoldable pub put_destination : Layout → Ip4 → ℕ → List ℕ → List ℕ
 put_destination l ip port p = put_word (put_address p 16 ip) (l.start + 2) port
 
--- the time to live lowered
-unfoldable pub lower_ttl : ℕ → List ℕ → List ℕ
-lower_ttl d p = slice_set p 8 (slice_index p 8 - d)
+-- the time to live set
+unfoldable pub put_ttl : ℕ → List ℕ → List ℕ
+put_ttl ttl p = slice_set p 8 ttl
 
 -- the greatest maximum segment size that leaves room for a second header within 1,500 bytes (1440)
 abbrev pub greatest_mss : ℕ
@@ -50,12 +50,13 @@ abbrev pub placed : ℕ → Option ℕ → Option ℕ
 placed start None = None
 placed start (Some at) = Some (start + at)
 
--- the maximum segment size of a segment with SYN lowered to 1440, where it is greater
+-- the place of the maximum segment size that a SYN carries
+abbrev pub syn_mss : Proto → List ℕ → Option ℕ
+syn_mss proto s = if is_syn proto s then mss_at s else None
+
+-- the maximum segment size of a SYN lowered to 1440, where it is greater
 unfoldable pub clamp : Layout → List ℕ → List ℕ
-clamp l p =
-    if is_syn l.proto (segment_in l p)
-    then lower_word (placed l.start (mss_at (segment_in l p))) p
-    else p
+clamp l p = lower_word (placed l.start (syn_mss l.proto (segment_in l p))) p
 
 -- a checksum computed over bytes that have 0 in its place
 abbrev pub put_checksum : ℕ → (List ℕ → ℕ) → List ℕ → List ℕ
@@ -106,7 +107,7 @@ translate_source ip port p = put_sums (layout_of p) (put_source (layout_of p) ip
 -- what is handed to a machine: the destination set, the time to live lowered, the maximum segment size clamped
 unfoldable pub translate_destination : Ip4 → ℕ → ℕ → List ℕ → List ℕ
 translate_destination ip port d p =
-    put_sums (layout_of p) (put_destination (layout_of p) ip port (lower_ttl d (clamp (layout_of p) p)))
+    put_sums (layout_of p) (put_destination (layout_of p) ip port (put_ttl (ttl_of p - d) (clamp (layout_of p) p)))
 
 -- the same of a packet that may have bytes past its total length, which are cut
 unfoldable pub translated : Ip4 → ℕ → List ℕ → List ℕ
