@@ -1,15 +1,13 @@
 -- The layout of a packet without fault lies within its bytes.
-use Rattle.std.proofs.Common.{◌≡◌, ℕ, ◌+◌, ◌-◌, ◌*◌, ◌<◌, ◌≤◌, List, length, take, drop, get_or, Option, Some, None, refl, sym, ap, ◌∙◌, subst, arith}
-use Rattle.std.proofs.lemmas.Grind.{common_steps}
-use Rattle.std.proofs.lemmas.List.{get_or-drop, get_or-take, length-drop, length-take, drop-take}
+use Rattle.std.proofs.Common.{◌≡◌, ℕ, ◌+◌, ◌-◌, ◌<◌, ◌≤◌, List, length, take, drop, get_or, None, sym, ap, ◌∙◌, subst, arith}
+use Rattle.std.proofs.lemmas.List.{length-drop, length-take, drop-take}
 use Rattle.std.specs.List.{slice_range}
 use Rattle.wire_core.specs.declared.flow.Proto.{Proto}
 use Rattle.wire_core.specs.declared.flow.Proto.TheVariants.{Tcp, Udp}
 use Rattle.packet_spec.specs.declared.layout.Layout.{Layout}
-use Rattle.packet_spec.specs.Words.{word_at}
 use Rattle.packet_spec.specs.Headers.{header_length, total_length, source_of, destination_of, payload_of}
 use Rattle.packet_spec.specs.Packets.{packet_fault, carried}
-use Rattle.packet_spec.specs.Segments.{HasFields, least_length, options_end, segment_fault, udp_length, segment_bytes}
+use Rattle.packet_spec.specs.Segments.{HasFields, least_length, segment_fault}
 use Rattle.packet_spec.specs.Edits.{layout_of, segment_in, segment_end}
 use Rattle.packet_spec.proofs.PacketLaws.{HasHeader, has_header, header_is_fine, segment_is_fine, has_fields, udp_within, length-payload, payload_word}
 use Rattle.packet_edit.specs.Layouts.{LiesWithin}

@@ -1,15 +1,16 @@
 -- What reading a packet answers, by what reading its parts answered.
-use Rattle.std.proofs.Common.{◌≡◌, ℕ, List, Option, Some, None, Result, Ok, Err, refl, sym, ap, ◌∙◌, ◌==◌, if◌then◌else◌, arith}
+use Rattle.std.proofs.Common.{◌≡◌, ℕ, List, length, take, Option, Some, None, Result, Ok, Err, IfOk, OnOk, refl, sym, ap, ◌∙◌, ◌==◌, if◌then◌else◌, arith}
 use Rattle.wire_core.specs.declared.flow.Proto.{Proto}
 use Rattle.wire_core.specs.declared.flow.Proto.TheVariants.{Tcp, Udp}
 use Rattle.packet_spec.specs.declared.fault.IpFault.{IpFault}
 use Rattle.packet_spec.specs.declared.fault.SegmentFault.{SegmentFault}
+use Rattle.packet_spec.specs.declared.fault.PacketFault.{PacketFault}
 use Rattle.packet_spec.specs.declared.fault.PacketFault.TheVariants.{Ip, NotTransport, Segment}
-use Rattle.packet_spec.specs.Headers.{ip_fault, read_ip, whole, unless_fault, protocol_of, source_of, destination_of, payload_of}
+use Rattle.packet_spec.specs.Headers.{read_ip, whole, protocol_of, source_of, destination_of, payload_of}
 use Rattle.packet_spec.specs.Segments as segments
 use Rattle.packet_spec.specs.Segments.{segment_fault, read_segment, segment_bytes}
-use Rattle.packet_spec.specs.Packets.{packet_fault, read_packet, proto_of, transport_fault, in_segment, carried, header_first}
-use Rattle.packet_spec.proofs.PacketLaws.{has_header, unless_ok, unless_err, read_ip_ok, read_ip_err, fault_behind, transport_of_whole}
+use Rattle.packet_spec.specs.Packets.{packet_fault, read_packet, proto_of, transport_fault, in_segment, carried}
+use Rattle.packet_spec.proofs.PacketLaws.{has_header, unless_ok, unless_err, read_ip_ok, read_ip_err, fault_behind, transport_of_whole, whole_is_fine, length-whole, header_is_fine}
 use Rattle.packet_edit.specs.Parts.{HasParts}
 
 -- a fault of the header is the packet's
@@ -65,3 +66,35 @@ parts_read q proto s some read =
       segment_transport = ap (λ (x : segments.Segment). x.proto) is ∙ c;
       segment_is = ap (λ (x : segments.Segment). x.bytes) is ∙ ap (λ (x : Proto). segment_bytes x (payload_of q)) c;
     }
+
+-- what is read has no fault, with or without the bytes past its total length
+pub read_is_fine : (p q : List ℕ) → Ok q ≡ read_packet p → packet_fault p ≡ None
+unfolding read_packet
+read_is_fine p q e = (unless_ok (packet_fault p) (whole p) q e).0
+
+pub lent_is_fine : (p q : List ℕ) → Ok q ≡ read_packet p → packet_fault q ≡ None
+unfolding read_packet
+lent_is_fine p q e =
+    let r = unless_ok (packet_fault p) (whole p) q e in
+    ap packet_fault r.1 ∙ whole_is_fine p r.0
+
+-- what is lent is the front of the bytes
+pub lent_is_front : (p q : List ℕ) → Ok q ≡ read_packet p → take (length q) p ≡ q
+unfolding read_packet whole
+lent_is_front p q e =
+    let r = unless_ok (packet_fault p) (whole p) q e in
+    let h = has_header p (header_is_fine p r.0) in
+    ap (λ (x : List ℕ). take (length x) p) r.1 ∙ ap (λ (n : ℕ). take n p) (length-whole p h) ∙ sym r.1
+
+-- the same of what reading answers
+pub if_lent_front : (p : List ℕ) (r : Result (List ℕ) PacketFault) → r ≡ read_packet p → IfOk r (λ q. take (length q) p ≡ q)
+if_lent_front p (Ok q) e = lent_is_front p q e
+if_lent_front p (Err f) e = tt
+
+pub if_lent_fine : (p : List ℕ) (r : Result (List ℕ) PacketFault) → r ≡ read_packet p → IfOk r (λ q. packet_fault q ≡ None)
+if_lent_fine p (Ok q) e = lent_is_fine p q e
+if_lent_fine p (Err f) e = tt
+
+pub if_lent_buffer : (p : List ℕ) (r : Result (List ℕ) PacketFault) → r ≡ read_packet p → OnOk r (packet_fault p ≡ None)
+if_lent_buffer p (Ok q) e = read_is_fine p q e
+if_lent_buffer p (Err f) e = tt

@@ -14,10 +14,11 @@ const TCP: u8 = 6;
 
 /// Where the addresses stand.
 const SOURCE: usize = 12;
+
 const DESTINATION: usize = 16;
 
 /// Where the time to live stands.
-const TTL: usize = 8;
+pub(crate) const TTL: usize = 8;
 
 /// TCP's SYN, in byte 13 of the segment.
 const SYN: u8 = 0x02;

@@ -20,7 +20,9 @@ mod translate;
 
 pub use packet::Packet;
 pub use packet_spec::{IpFault, PacketFault, SegmentFault};
-pub use translate::{clamp_mss, set_destination, set_source, translate_destination, translate_source};
+pub use translate::{
+    clamp_mss, set_destination, set_source, translate_destination, translate_source,
+};
 
 #[cfg(test)]
 mod tests;

@@ -1,6 +1,6 @@
-ghost use Rattle.std.specs.Prelude.{◌≡◌, OnOk, None};
+ghost use Rattle.std.specs.Prelude.{◌≡◌, length, take, OnOk, IfOk, None};
 ghost use Rattle.wire_core.specs.declared.flow.Proto.TheVariants.{Tcp, Udp};
-ghost use Rattle.packet_spec.specs.Headers.{ttl_of, whole};
+ghost use Rattle.packet_spec.specs.Headers.{ttl_of};
 ghost use Rattle.packet_spec.specs.Packets.{read_packet, packet_fault, proto_of, carried, key_of, has_syn, has_ack, has_rst};
 
 use ip_codec::Ip4View;
@@ -41,10 +41,8 @@ fn proto_of(number: u8) -> Option<Proto>
 }
 
 impl<'a> Packet<'a> {
-    /// The packet at the front of the bytes, or its first fault: a fault of the header, `NotTransport`, a fault of the
-    /// segment. Bytes past the total length are ignored.
     #[tactic(auto, using(crate::proofs::ReadLaws::header_fault, crate::proofs::ReadLaws::not_transport, crate::proofs::ReadLaws::segment_read_fault, crate::proofs::ReadLaws::packet_read, crate::proofs::ReadLaws::parts_read))]
-    pub fn read(bytes: &'a [u8]) -> Result<Packet<'a>, PacketFault>
+    fn read_parts(bytes: &'a [u8]) -> Result<Packet<'a>, PacketFault>
         ensures { result ≡ read_packet bytes.now }
     {
         let ip = match Ip4View::read(bytes) {
@@ -59,6 +57,18 @@ impl<'a> Packet<'a> {
             Ok(segment) => Ok(Packet { ip, proto, segment }),
             Err(fault) => Err(PacketFault::Segment(fault)),
         }
+    }
+
+    /// The packet at the front of the bytes, or its first fault: a fault of the header, `NotTransport`, a fault of the
+    /// segment. Bytes past the total length are ignored.
+    pub fn read(bytes: &'a [u8]) -> Result<Packet<'a>, PacketFault>
+        ensures packet { result ≡ read_packet bytes.now }
+        // What is lent is the front of the bytes, and neither it nor the bytes have a fault.
+        ensures front { IfOk result (λ p. take (length p) bytes.now ≡ p) }
+        ensures fine { IfOk result (λ p. packet_fault p ≡ None) }
+        ensures buffer { OnOk result (packet_fault bytes.now ≡ None) }
+    {
+        Packet::read_parts(bytes)
     }
 
     /// The five numbers of the packet.
@@ -111,6 +121,13 @@ impl<'a> Packet<'a> {
         ensures { result.now ≡ self.now }
     {
         &self.ip
+    }
+
+    /// The total length, in bytes.
+    pub fn len(&self) -> usize
+        ensures { result ≡ length self.now }
+    {
+        self.ip.whole().len()
     }
 
     /// The bytes up to the total length.

@@ -53,7 +53,12 @@ fn put_segment_sum(p: &mut [u8], l: &Layout)
         return;
     }
     put_word(p, at, 0);
-    let sum = segment_checksum(l.proto, address_at(p, 12), address_at(p, 16), &p[l.start..l.end]);
+    let sum = segment_checksum(
+        l.proto,
+        address_at(p, 12),
+        address_at(p, 16),
+        &p[l.start..l.end],
+    );
     put_word(p, at, sent_sum(l.proto, sum));
 }
 

@@ -3,7 +3,7 @@ ghost use Rattle.packet_spec.specs.Headers.{ttl_of};
 ghost use Rattle.packet_spec.specs.Packets.{packet_fault};
 ghost use Rattle.packet_spec.specs.Edits.{set_source, set_destination, clamp_mss, translate_source, translate_destination};
 
-use crate::fields::{clamp, layout_of, put_ttl, put_destination, put_source};
+use crate::fields::{TTL, clamp, layout_of, put_destination, put_source, put_ttl};
 use crate::sums::put_sums;
 use wire_core::Ip4;
 
@@ -63,7 +63,7 @@ pub fn translate_destination(p: &mut [u8], ip: Ip4, port: u16, lowered: u8)
     ensures { p.new ≡ translate_destination ip port lowered p.old }
 {
     let layout = layout_of(p);
-    let ttl = p[8] - lowered;
+    let ttl = p[TTL] - lowered;
     clamp(p, &layout);
     put_ttl(p, ttl);
     put_destination(p, &layout, ip, port);

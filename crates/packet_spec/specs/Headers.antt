@@ -1,5 +1,5 @@
 -- The IPv4 header (RFC 791, section 3.1).
-use Rattle.std.specs.Prelude.{◌≡◌, ◌≤◌, ℕ, ◌+◌, ◌*◌, ◌/◌, ◌%◌, Bool, true, false, not, ◌||◌, ◌==◌, nat_lt, List, [], ◌∷◌, ◌++◌, length, take, drop, slice_index, Option, Some, None, Result, Ok, Err, if◌then◌else◌}
+use Rattle.std.specs.Prelude.{◌≡◌, ◌≤◌, ℕ, ◌*◌, ◌/◌, ◌%◌, Bool, true, false, not, ◌||◌, ◌==◌, nat_lt, List, ◌∷◌, ◌++◌, length, take, drop, slice_index, Option, Some, None, Result, Ok, Err, if◌then◌else◌}
 use Rattle.wire_core.specs.declared.address.Ip4.{Ip4}
 use Rattle.packet_spec.specs.declared.fault.IpFault.{IpFault}
 use Rattle.packet_spec.specs.declared.fault.IpFault.TheVariants.{Short, Version, HeaderLength, TotalLength, HeaderSum, Fragment}

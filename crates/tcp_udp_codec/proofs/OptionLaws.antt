@@ -1,8 +1,7 @@
 -- One step of the walk over the options of a TCP header.
-use Rattle.std.proofs.Common.{◌≡◌, ℕ, zero, suc, ◌+◌, ◌-◌, ◌<◌, List, Option, Some, None, refl, sym, ap, ◌∙◌, arith}
-use Rattle.packet_spec.specs.declared.options.OptionStep.{OptionStep}
+use Rattle.std.proofs.Common.{◌≡◌, ℕ, zero, suc, ◌<◌, List, Some, None, refl, ap, arith}
 use Rattle.packet_spec.specs.declared.options.OptionStep.TheVariants.{Stop, Size, Next}
-use Rattle.packet_spec.specs.Options.{option_at, follow, mss_from}
+use Rattle.packet_spec.specs.Options.{option_at, mss_from}
 
 pub mss_none : (s : List ℕ) (end at : ℕ) → mss_from 0 s end at ≡ None
 unfolding mss_from

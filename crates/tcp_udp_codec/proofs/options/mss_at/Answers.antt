@@ -1,6 +1,6 @@
-use Rattle.std.proofs.Common.{◌≡◌, ℕ, ◌+◌, ◌-◌, suc, sym, ◌∙◌, arith}
+use Rattle.std.proofs.Common.{◌≡◌, ◌+◌, ◌-◌, suc, sym, ◌∙◌, arith}
 use Rattle.tcp_udp_codec.proofs.OptionLaws.{mss_none, mss_next}
-use Rattle.packet_spec.specs.Options.{mss_from, mss_at}
+use Rattle.packet_spec.specs.Options.{mss_at}
 use Rattle.tcp_udp_codec.proofs.options.mss_at.Goals as goal
 
 pub loop-preserved : goal.loop-preserved

@@ -1,4 +1,4 @@
-use Rattle.std.proofs.Common.{◌≡◌, ◌-◌, ℕ}
+use Rattle.std.proofs.Common.{◌≡◌, ◌-◌}
 use Rattle.packet_spec.specs.Options.{data_offset, mss_from}
 use Rattle.tcp_udp_codec.proofs.options.mss_at.Given as goal
 
