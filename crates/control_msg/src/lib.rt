@@ -18,6 +18,7 @@ mod agreement;
 mod fields;
 mod frame;
 mod kind;
+mod laws;
 mod leases;
 mod message;
 mod muxes;
@@ -27,6 +28,7 @@ mod writing;
 
 pub use frame::Frame;
 pub use kind::Kind;
+pub use laws::{frame_spelling, message_spelling};
 pub use message::Message;
 pub use reading::{MessageFault, decode};
 pub use writing::encode;
