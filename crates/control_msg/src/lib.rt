@@ -32,3 +32,6 @@ pub use laws::{frame_spelling, message_spelling};
 pub use message::Message;
 pub use reading::{MessageFault, decode};
 pub use writing::encode;
+
+#[cfg(test)]
+mod tests;
