@@ -1,13 +1,13 @@
 -- What is read of a message is spelled by the bytes that were read, and allowed.
-use Rattle.std.proofs.Common.{◌≡◌, ◌∙◌, ℕ, ◌≤◌, ◌<◌, ◌^◌, ◌%◌, Bool, true, false, cond, ◌==◌, ◌&&◌, nat_le, if◌then◌else◌, List, [], ◌∷◌, ◌++◌, length, Option, Some, None, Result, Ok, Err, refl, sym, ap, subst, append-nil, arith, inl, inr}
+use Rattle.std.proofs.Common.{◌≡◌, ◌∙◌, ℕ, ◌<◌, ◌%◌, Bool, true, false, cond, ◌==◌, nat_le, if◌then◌else◌, List, ◌++◌, length, Option, Some, None, Result, Ok, Err, refl, sym, ap, subst, arith, inl, inr}
 use Rattle.std.proofs.lemmas.Bool.Decides.{nat_tests}
 use Rattle.wire_core.specs.declared.address.Ip4.{Ip4}
 use Rattle.wire_core.specs.declared.reading.FieldFault.{FieldFault}
 use Rattle.wire_core.specs.declared.reading.FieldFault.TheVariants.{NotAllowed}
-use Rattle.wire_core.specs.Numbers.{number_bytes, AreBytes}
+use Rattle.wire_core.specs.Numbers.{AreBytes}
 use Rattle.wire_core.specs.Commands.{LogCommand, IsValue, value_bytes}
 use Rattle.wire_core.specs.Reading.{Read, ◌>>=◌, field, value_at}
-use Rattle.wire_core.proofs.ReadingLaws.{done_is, bind_ok, chosen, Splits, splits_none, splits_then, IsField, field_is, IsByte, byte_is}
+use Rattle.wire_core.proofs.ReadingLaws.{done_is, bind_ok, chosen, Splits, splits_none, splits_then, field_is, byte_is}
 use Rattle.wire_core.proofs.CommandLaws.{value_is}
 use Rattle.control_msg.specs.declared.kind.Kind.{Kind}
 use Rattle.control_msg.specs.declared.kind.Kind.TheVariants as kind

@@ -1,5 +1,5 @@
 -- A message that is read from a whole text is spelled by it.
-use Rattle.std.proofs.Common.{◌≡◌, ◌∙◌, ℕ, suc, ◌≤◌, Bool, true, false, ltb, nat_lt, ◌==◌, not, if◌then◌else◌, List, [], ◌∷◌, ◌++◌, length, Option, Some, None, Result, Ok, Err, refl, sym, ap, append-nil, arith, cond}
+use Rattle.std.proofs.Common.{◌≡◌, ◌∙◌, ℕ, suc, Bool, true, false, ltb, ◌==◌, not, if◌then◌else◌, List, [], ◌∷◌, length, Option, Some, None, Result, Ok, Err, refl, sym, ap, append-nil, arith, cond}
 use Rattle.std.proofs.lemmas.Bool.{le-ltb}
 use Rattle.std.proofs.lemmas.Bool.Decides.{nat_tests}
 use Rattle.wire_core.specs.Numbers.{AreBytes}
@@ -11,7 +11,7 @@ use Rattle.control_msg.specs.declared.reading.MessageFault.TheVariants as fault
 use Rattle.control_msg.specs.Messages.{spelled, message_bytes, IsMessage}
 use Rattle.control_msg.specs.Reading.{kind_of, fields_at, whole, of_kind, message_at}
 use Rattle.control_msg.specs.Frames.{Framed, Control, Packet, frame_bytes, frame_at}
-use Rattle.control_msg.proofs.SpellingLaws.{HasFields, byte_of, fields_are, kind_byte}
+use Rattle.control_msg.proofs.SpellingLaws.{byte_of, fields_are, kind_byte}
 
 abbrev read_as : Message → List ℕ → Read Message
 read_as m rest = Ok (m, rest)
