@@ -32,27 +32,33 @@ spelled kind fields = 1 ∷ kind ∷ fields
 
 abbrev pub message_bytes : Message → List ℕ
 message_bytes (Prepare ballot) = spelled 1 (number ballot)
-message_bytes (Promise ballot length vote value) = spelled 2 (number ballot ++ number length ++ number vote ++ optional_value value)
+message_bytes (Promise ballot length vote value) =
+    spelled 2 (number ballot ++ number length ++ number vote ++ optional_value value)
 message_bytes (Accept ballot slot value) = spelled 3 (number ballot ++ number slot ++ value_bytes value)
 message_bytes (Accepted ballot slot) = spelled 4 (number ballot ++ number slot)
 message_bytes (Refuse ballot promised) = spelled 5 (number ballot ++ number promised)
 message_bytes (Chosen slot ballot value) = spelled 6 (number slot ++ number ballot ++ value_bytes value)
 message_bytes (Fetch slot) = spelled 7 (number slot)
 message_bytes (Ask boot machine seq) = spelled 8 (number boot ++ address machine ++ number seq)
-message_bytes (Grant boot machine seq n vip start) = spelled 9 (number boot ++ address machine ++ number seq ++ number n ++ address vip ++ port start)
-message_bytes (Denied boot machine seq reason count) = spelled 10 (number boot ++ address machine ++ number seq ++ byte reason ++ number count)
+message_bytes (Grant boot machine seq n vip start) =
+    spelled 9 (number boot ++ address machine ++ number seq ++ number n ++ address vip ++ port start)
+message_bytes (Denied boot machine seq reason count) =
+    spelled 10 (number boot ++ address machine ++ number seq ++ byte reason ++ number count)
 message_bytes (Return boot n) = spelled 11 (number boot ++ number n)
 message_bytes (Returned boot n) = spelled 12 (number boot ++ number n)
 message_bytes (AgentUp boot) = spelled 13 (number boot)
 message_bytes (AgentKnown boot) = spelled 14 (number boot)
 message_bytes (MuxHello boot epoch) = spelled 15 (number boot ++ number epoch)
-message_bytes (Program epoch boot n vip start machine) = spelled 16 (number epoch ++ number boot ++ number n ++ address vip ++ port start ++ address machine)
+message_bytes (Program epoch boot n vip start machine) =
+    spelled 16 (number epoch ++ number boot ++ number n ++ address vip ++ port start ++ address machine)
 message_bytes (Programmed epoch boot n) = spelled 17 (number epoch ++ number boot ++ number n)
-message_bytes (Unprogram epoch boot n vip start) = spelled 18 (number epoch ++ number boot ++ number n ++ address vip ++ port start)
+message_bytes (Unprogram epoch boot n vip start) =
+    spelled 18 (number epoch ++ number boot ++ number n ++ address vip ++ port start)
 message_bytes (Unprogrammed epoch boot n) = spelled 19 (number epoch ++ number boot ++ number n)
 message_bytes (MuxRefuse epoch boot kept) = spelled 20 (number epoch ++ number boot ++ number kept)
 message_bytes (Lead ballot length) = spelled 21 (number ballot ++ number length)
-message_bytes (RedirectAsk src sport dst dport machine) = spelled 22 (address src ++ port sport ++ address dst ++ port dport ++ address machine)
+message_bytes (RedirectAsk src sport dst dport machine) =
+    spelled 22 (address src ++ port sport ++ address dst ++ port dport ++ address machine)
 message_bytes (Redirect side n src sport dst dport opener server) =
     spelled 23 (byte side ++ number n ++ address src ++ port sport ++ address dst ++ port dport ++ address opener ++ address server)
 
@@ -94,19 +100,24 @@ IsMessage (Refuse ballot promised) = IsNumber ballot × IsNumber promised
 IsMessage (Chosen slot ballot value) = IsNumber slot × IsNumber ballot × IsValue value
 IsMessage (Fetch slot) = IsNumber slot
 IsMessage (Ask boot machine seq) = IsNumber boot × IsAddress machine × IsNumber seq
-IsMessage (Grant boot machine seq n vip start) = IsNumber boot × IsAddress machine × IsNumber seq × IsNumber n × IsAddress vip × IsStart start
-IsMessage (Denied boot machine seq reason count) = IsNumber boot × IsAddress machine × IsNumber seq × IsReason reason × IsNumber count
+IsMessage (Grant boot machine seq n vip start) =
+    IsNumber boot × IsAddress machine × IsNumber seq × IsNumber n × IsAddress vip × IsStart start
+IsMessage (Denied boot machine seq reason count) =
+    IsNumber boot × IsAddress machine × IsNumber seq × IsReason reason × IsNumber count
 IsMessage (Return boot n) = IsNumber boot × IsNumber n
 IsMessage (Returned boot n) = IsNumber boot × IsNumber n
 IsMessage (AgentUp boot) = IsNumber boot
 IsMessage (AgentKnown boot) = IsNumber boot
 IsMessage (MuxHello boot epoch) = IsNumber boot × IsNumber epoch
-IsMessage (Program epoch boot n vip start machine) = IsNumber epoch × IsNumber boot × IsNumber n × IsAddress vip × IsStart start × IsAddress machine
+IsMessage (Program epoch boot n vip start machine) =
+    IsNumber epoch × IsNumber boot × IsNumber n × IsAddress vip × IsStart start × IsAddress machine
 IsMessage (Programmed epoch boot n) = IsNumber epoch × IsNumber boot × IsNumber n
-IsMessage (Unprogram epoch boot n vip start) = IsNumber epoch × IsNumber boot × IsNumber n × IsAddress vip × IsStart start
+IsMessage (Unprogram epoch boot n vip start) =
+    IsNumber epoch × IsNumber boot × IsNumber n × IsAddress vip × IsStart start
 IsMessage (Unprogrammed epoch boot n) = IsNumber epoch × IsNumber boot × IsNumber n
 IsMessage (MuxRefuse epoch boot kept) = IsNumber epoch × IsNumber boot × IsNumber kept
 IsMessage (Lead ballot length) = IsNumber ballot × IsNumber length
-IsMessage (RedirectAsk src sport dst dport machine) = IsAddress src × IsPort sport × IsAddress dst × IsPort dport × IsAddress machine
+IsMessage (RedirectAsk src sport dst dport machine) =
+    IsAddress src × IsPort sport × IsAddress dst × IsPort dport × IsAddress machine
 IsMessage (Redirect side n src sport dst dport opener server) =
     IsSide side × IsNumber n × IsAddress src × IsPort sport × IsAddress dst × IsPort dport × IsAddress opener × IsAddress server

@@ -45,7 +45,9 @@ side_at bytes = tested_at is_side 1 bytes
 
 -- a value exactly where the vote isn't 0
 unfoldable pub vote_value_at : ℕ → List ℕ → Read (Option (List LogCommand))
-vote_value_at vote bytes = if vote == 0 then Ok (None, bytes) else (value_at bytes >>= λ value. Ok (Some value.0, value.1))
+vote_value_at vote bytes =
+    if vote == 0 then Ok (None, bytes)
+    else (value_at bytes >>= λ value. Ok (Some value.0, value.1))
 
 -- ---- the fields of a message
 

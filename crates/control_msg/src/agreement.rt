@@ -135,7 +135,8 @@ pub fn write_promise(
     vote: u64,
     value: &Option<Value>,
 ) -> Result<(), NoMemory>
-    ensures ok { OnOk result (out.new.items ≡ out.old.items ++ message_bytes (Message.Promise ballot length vote value.now)) }
+    ensures ok { OnOk result (out.new.items
+        ≡ out.old.items ++ message_bytes (Message.Promise ballot length vote value.now)) }
     ensures err { OnErr result (out.new.items ≡ out.old.items) }
 {
     let bytes = optional_bytes(value);

@@ -128,7 +128,8 @@ pub fn write_valued(
     b: u64,
     value: &Value,
 ) -> Result<(), NoMemory>
-    ensures ok { OnOk result (out.new.items ≡ out.old.items ++ spelled kind (number a ++ number b ++ value_bytes value.now)) }
+    ensures ok { OnOk result (out.new.items
+        ≡ out.old.items ++ spelled kind (number a ++ number b ++ value_bytes value.now)) }
     ensures err { OnErr result (out.new.items ≡ out.old.items) }
 {
     let bytes = value.as_bytes();

@@ -9,7 +9,8 @@ ghost use Rattle.wire_core.specs.Numbers.{AreBytes};
 /// [`crate::decode`] answers `Ok(m)` exactly where the bytes are the spelling of `m` and the fields of `m` are allowed.
 pub fn message_spelling()
     ensures again { (m : Message) → IsMessage m → message_at (message_bytes m) ≡ Ok m }
-    ensures spelled { (bytes : List ℕ) (m : Message) → AreBytes bytes → message_at bytes ≡ Ok m → (bytes ≡ message_bytes m) × IsMessage m }
+    ensures spelled { (bytes : List ℕ) (m : Message) → AreBytes bytes → message_at bytes ≡ Ok m
+        → (bytes ≡ message_bytes m) × IsMessage m }
 {}
 
 /// Each frame has one spelling.

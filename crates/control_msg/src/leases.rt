@@ -119,7 +119,8 @@ pub fn write_grant(
     vip: Ip4,
     start: u16,
 ) -> Result<(), NoMemory>
-    ensures ok { OnOk result (out.new.items ≡ out.old.items ++ message_bytes (Message.Grant boot machine seq n vip start)) }
+    ensures ok { OnOk result (out.new.items
+        ≡ out.old.items ++ message_bytes (Message.Grant boot machine seq n vip start)) }
     ensures err { OnErr result (out.new.items ≡ out.old.items) }
 {
     out.reserve(36)?;
@@ -142,7 +143,8 @@ pub fn write_denied(
     reason: u8,
     number: u64,
 ) -> Result<(), NoMemory>
-    ensures ok { OnOk result (out.new.items ≡ out.old.items ++ message_bytes (Message.Denied boot machine seq reason number)) }
+    ensures ok { OnOk result (out.new.items
+        ≡ out.old.items ++ message_bytes (Message.Denied boot machine seq reason number)) }
     ensures err { OnErr result (out.new.items ≡ out.old.items) }
 {
     out.reserve(31)?;

@@ -101,7 +101,8 @@ pub fn write_program(
     start: u16,
     machine: Ip4,
 ) -> Result<(), NoMemory>
-    ensures ok { OnOk result (out.new.items ≡ out.old.items ++ message_bytes (Message.Program epoch boot n vip start machine)) }
+    ensures ok { OnOk result (out.new.items
+        ≡ out.old.items ++ message_bytes (Message.Program epoch boot n vip start machine)) }
     ensures err { OnErr result (out.new.items ≡ out.old.items) }
 {
     out.reserve(36)?;
@@ -124,7 +125,8 @@ pub fn write_unprogram(
     vip: Ip4,
     start: u16,
 ) -> Result<(), NoMemory>
-    ensures ok { OnOk result (out.new.items ≡ out.old.items ++ message_bytes (Message.Unprogram epoch boot n vip start)) }
+    ensures ok { OnOk result (out.new.items
+        ≡ out.old.items ++ message_bytes (Message.Unprogram epoch boot n vip start)) }
     ensures err { OnErr result (out.new.items ≡ out.old.items) }
 {
     out.reserve(32)?;

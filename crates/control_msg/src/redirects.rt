@@ -65,7 +65,8 @@ pub fn write_redirect_ask(
     dport: u16,
     machine: Ip4,
 ) -> Result<(), NoMemory>
-    ensures ok { OnOk result (out.new.items ≡ out.old.items ++ message_bytes (Message.RedirectAsk src sport dst dport machine)) }
+    ensures ok { OnOk result (out.new.items
+        ≡ out.old.items ++ message_bytes (Message.RedirectAsk src sport dst dport machine)) }
     ensures err { OnErr result (out.new.items ≡ out.old.items) }
 {
     out.reserve(18)?;
@@ -90,7 +91,8 @@ pub fn write_redirect(
     opener: Ip4,
     server: Ip4,
 ) -> Result<(), NoMemory>
-    ensures ok { OnOk result (out.new.items ≡ out.old.items ++ message_bytes (Message.Redirect side n src sport dst dport opener server)) }
+    ensures ok { OnOk result (out.new.items
+        ≡ out.old.items ++ message_bytes (Message.Redirect side n src sport dst dport opener server)) }
     ensures err { OnErr result (out.new.items ≡ out.old.items) }
 {
     out.reserve(31)?;
