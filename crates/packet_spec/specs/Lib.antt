@@ -1,0 +1,7 @@
+pub mod Words
+pub mod Sums
+pub mod Headers
+pub mod Segments
+pub mod Options
+pub mod Packets
+pub mod Edits
