@@ -217,5 +217,7 @@ apply rules cs t = fold (tell rules) (nothing t) cs
 
 -- A log with one value more: the value's commands on top of its table, what they did after all that was done.
 pub record OneMore (rules : LeaseRules) (values : List (List LogCommand)) (value : List LogCommand) : Type 0 where
-  pub leaves : table rules (values ++ value ∷ []) ≡ (apply rules (slot_commands (length values) value) (table rules values)).leases
-  pub does : history rules (commands (values ++ value ∷ [])) ≡ history rules (commands values) ++ (apply rules (slot_commands (length values) value) (table rules values)).effects
+  pub leaves : table rules (values ++ value ∷ [])
+      ≡ (apply rules (slot_commands (length values) value) (table rules values)).leases
+  pub does : history rules (commands (values ++ value ∷ []))
+      ≡ history rules (commands values) ++ (apply rules (slot_commands (length values) value) (table rules values)).effects

@@ -1,0 +1,3 @@
+pub mod SpellingLaws
+pub mod AgainLaws
+pub mod WholeLaws
