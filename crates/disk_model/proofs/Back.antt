@@ -1,6 +1,6 @@
 -- What a call replaced gives the file before it.
 use Rattle.std.proofs.Common.{◌≡◌, ◌≤◌, ℕ, ◌+◌, ◌-◌, min, max, List, [], ◌∷◌, ◌++◌, length, take, drop, reverse, sym, ◌∙◌, ap, arith, inl, inr, append_assoc, length-append, length-drop, take-append-drop}
-use Rattle.std.proofs.lemmas.List.{take_at, drop_at, drop-drop, take_min, take-take, take_all, drop_all, drop-take, append-nil, length-take-le, reverse-append, take-append-le}
+use Rattle.std.proofs.lemmas.List.{take_at, drop_at, drop-drop, take_min, take-take, drop_all, drop-take, append-nil, length-take-le, reverse-append, take-append-le}
 use Rattle.std.proofs.Math.Seq.{take-append-add}
 use Rattle.std.proofs.lemmas.Bool.{cases_lt}
 use Rattle.outside_io.specs.Disk.{FileState, then}

@@ -47,11 +47,11 @@ fn lay(bytes: &mut [u8], ranges: &[Span], end: usize, pick: &[u8])
 }
 
 impl MemDisk {
-    /// What a crash leaves: the image that is as near to `pick` as an image can be. Its length is that of `pick`, but no
-    /// less than the least and no more than the greatest that the file had since the last sync. Its bytes are those of
-    /// `pick`, 0 past the end of `pick`, where they were written since then and past the end of the file; elsewhere they
-    /// are the file's. Nothing is pending then, nothing is known of before, and no fault is counted. Takes no memory, and
-    /// time in the bytes written since the last sync.
+    /// What a crash leaves: the image that is as near to `pick` as an image can be. Its length is that of `pick`, but
+    /// no less than the least and no more than the greatest that the file had since the last sync. Where bytes were
+    /// written since then, and past the end of the file, its bytes are those of `pick`, 0 past the end of `pick`;
+    /// elsewhere they are the file's. Nothing is pending then, nothing is known of before, and no fault is counted.
+    /// Takes no memory, and time in the bytes written since the last sync.
     pub fn crash(self, pick: &[u8]) -> MemDisk
         ensures left { history_of result ≡ record { now = kept (picked (state_of self) pick.now); past = [] } }
         ensures image { IsImage (state_of self) (picked (state_of self) pick.now) }

@@ -101,7 +101,8 @@ impl Disk for Fuse {
     fn write_at(&mut self, at: u64, bytes: &[u8]) -> Result<(), Failed>
         requires { Within (Some (history_of self.old.disk)) at }
         ensures passes { Passes self.old self.new result }
-        ensures written { Does (wrote at bytes.now) (Some (history_of self.old.disk)) (Some (history_of self.new.disk)) result }
+        ensures written { Does (wrote at bytes.now) (Some (history_of self.old.disk))
+            (Some (history_of self.new.disk)) result }
         ensures same { OnErr result (history_of self.new.disk ≡ history_of self.old.disk) }
         ensures cause { HasCause self.old.faults self.new.faults result }
     {

@@ -13,7 +13,8 @@ use wire_core::NoMemory;
 // Puts the piece over what is there from `at` on, and past the end.
 fn put(bytes: &mut Vec<u8>, at: usize, piece: &[u8]) -> Result<(), NoMemory>
     requires { at ≤ length bytes.old.items }
-    ensures ok { OnOk result (bytes.new.items ≡ take at bytes.old.items ++ piece.now ++ drop (at + length piece.now) bytes.old.items) }
+    ensures ok { OnOk result (bytes.new.items
+        ≡ take at bytes.old.items ++ piece.now ++ drop (at + length piece.now) bytes.old.items) }
     ensures err { OnErr result (bytes.new.items ≡ bytes.old.items) }
 {
     let over = piece.len().min(bytes.len() - at);

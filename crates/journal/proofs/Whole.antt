@@ -1,5 +1,5 @@
 -- A file is read as the bodies of its records, and as nothing else.
-use Rattle.std.proofs.Common.{◌≡◌, ◌≢◌, ◌⊎◌, inl, inr, ◌<◌, ◌≤◌, ℕ, zero, suc, ◌+◌, ◌-◌, ◌^◌, Bool, true, false, List, [], ◌∷◌, ◌++◌, length, get_or, take, drop, refl, sym, ◌∙◌, ap, subst, arith, length-append, length-drop, append_assoc, take-append-drop, Ok}
+use Rattle.std.proofs.Common.{◌≡◌, ◌≢◌, ◌⊎◌, inl, inr, ◌<◌, ◌≤◌, ℕ, zero, suc, ◌+◌, Bool, true, false, List, [], ◌∷◌, ◌++◌, length, get_or, take, drop, refl, sym, ◌∙◌, ap, subst, arith, length-append, length-drop, append_assoc, take-append-drop, Ok}
 use Rattle.std.specs.Prelude.{Result, Err, Option, Some, None}
 use Rattle.std.proofs.lemmas.List.{append-nil, drop_more, take-take, drop-take, drop-drop, length-take-le}
 use Rattle.std.proofs.lemmas.Bool.Decides.{nat_tests}
@@ -7,11 +7,10 @@ use Rattle.std.proofs.lemmas.Bool.{cases_eq, true≢false}
 use Rattle.wire_core.specs.Numbers.{AreBytes}
 use Rattle.wire_core.specs.Numbers.{number_bytes}
 use Rattle.wire_core.proofs.NumberLaws.{take_bytes, drop_bytes, number_bytes-big_number}
-use Rattle.byteorder.specs.Endian.{big_number, big_bytes}
 use Rattle.outside_io.specs.Disk.{Each}
 use Rattle.journal.specs.File.{size, size_bytes, body_of, is_record, record_at, go_on, after, bodies_from, bodies, StandsFor}
 use Rattle.journal.specs.Records.{IsBody, records, IsRecords}
-use Rattle.journal.proofs.Records.{IsRecord, tests, at_open, at_shut, length-size_bytes, length-body}
+use Rattle.journal.proofs.Records.{tests, at_open, at_shut, length-size_bytes, length-body}
 use Rattle.journal.proofs.Files.{stands_none, stands_shut, long_bodies, short_bodies, one_or_more}
 use Rattle.journal.proofs.Append.{stands_written}
 

@@ -27,14 +27,17 @@ record_bytes body = record_with body 0
 abbrev pub body_of : List ℕ → List ℕ
 body_of rest = take (size rest) (drop 5 rest)
 
--- The record behind a gate at this place and the gate after it are within the file and the bound, and the body is an entry.
+-- The record behind a gate at this place and the gate after it are within the file and the bound, and the body is an
+-- entry.
 abbrev pub is_record : ℕ → ℕ → List ℕ → Bool
 is_record bound at rest =
-    nat_le 1 (size rest) && nat_le (size rest) 65536 && nat_lt (size rest + 5) (length rest) && nat_lt (at + size rest + 5) bound && is_entry (body_of rest)
+    nat_le 1 (size rest) && nat_le (size rest) 65536 && nat_lt (size rest + 5) (length rest)
+    && nat_lt (at + size rest + 5) bound && is_entry (body_of rest)
 
 -- What stands at a gate: a body, the end, or nothing of this form.
 abbrev pub record_at : ℕ → ℕ → List ℕ → Result (Option (List ℕ)) ℕ
-record_at bound at rest = if get_or rest 0 0 == 1 then (if is_record bound at rest then Ok (Some (body_of rest)) else Err at) else Ok None
+record_at bound at rest =
+    if get_or rest 0 0 == 1 then (if is_record bound at rest then Ok (Some (body_of rest)) else Err at) else Ok None
 
 -- behind a body there is more
 abbrev pub go_on : Result (Option (List ℕ)) ℕ → (List ℕ → Result (List (List ℕ)) ℕ) → Result (List (List ℕ)) ℕ
@@ -51,7 +54,8 @@ after bs (Err at) = Err at
 abbrev pub bodies_from : ℕ → ℕ → ℕ → List ℕ → Result (List (List ℕ)) ℕ
 bodies_from zero bound at rest = Ok []
 bodies_from (suc fuel) bound at rest =
-    go_on (record_at bound at rest) (λ body. after (body ∷ []) (bodies_from fuel bound (at + length body + 5) (drop (length body + 5) rest)))
+    go_on (record_at bound at rest)
+    (λ body. after (body ∷ []) (bodies_from fuel bound (at + length body + 5) (drop (length body + 5) rest)))
 
 -- The bodies of a file, or the offset of the open gate where it is damaged. A record has at least 6 bytes.
 abbrev pub bodies : ℕ → List ℕ → Result (List (List ℕ)) ℕ
@@ -59,5 +63,6 @@ bodies bound file = if nat_le (length file) 1 then Ok [] else bodies_from (lengt
 
 -- Whatever follows, this front of a file is read as these bodies.
 pub record StandsFor (bound : ℕ) (front : List ℕ) (bs : List (List ℕ)) : Type 0 where
-  pub more : (fuel : ℕ) (rest : List ℕ) → 0 < length rest → bodies_from (length bs + fuel) bound 0 (front ++ rest) ≡ after bs (bodies_from fuel bound (length front) rest)
+  pub more : (fuel : ℕ) (rest : List ℕ) → 0 < length rest
+      → bodies_from (length bs + fuel) bound 0 (front ++ rest) ≡ after bs (bodies_from fuel bound (length front) rest)
   pub few : length bs ≤ length front

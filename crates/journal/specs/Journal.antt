@@ -1,6 +1,6 @@
 -- What a journal keeps, and what a crash leaves of it.
 use Rattle.std.specs.Prelude.{◌≡◌, ◌≢◌, ◌⊎◌, ◌<◌, ◌≤◌, ℕ, ◌+◌, true, List, [], ◌∷◌, ◌++◌, length, get_or, Result, Ok, Err, Option, None, Some, ⊤}
-use Rattle.outside_io.specs.Disk.{History, kept, LeavesOnly}
+use Rattle.outside_io.specs.Disk.{History, kept, Leaves, LeavesOnly}
 use Rattle.outside_io.specs.Faults.{Rose}
 use Rattle.journal.specs.Durable.{file_in, synced}
 use Rattle.journal.specs.File.{bodies, StandsFor}
@@ -48,13 +48,26 @@ IsAsBefore bound before file = bodies bound file ≡ bodies bound before
 
 -- the file opens to the bodies before, or to these and the new one
 abbrev pub IsBeforeOrAfter : ℕ → List ℕ → List ℕ → List ℕ → Type 0
-IsBeforeOrAfter bound before body file = IsAsBefore bound before file ⊎ (bodies bound file ≡ with_body body (bodies bound before))
+IsBeforeOrAfter bound before body file =
+    IsAsBefore bound before file ⊎ (bodies bound file ≡ with_body body (bodies bound before))
 
 -- the new file opens to the bodies of the old one and this
 abbrev pub Adds : ℕ → List ℕ → Option History → Option History → Type 0
 Adds bound body None new = ⊤
 Adds bound body (Some t) None = ⊥
 Adds bound body (Some t) (Some u) = bodies bound u.now.bytes ≡ with_body body (bodies bound t.now.bytes)
+
+-- each crash now leaves a file with these bodies
+abbrev pub LeavesBodies : ℕ → Option History → List (List ℕ) → Type 0
+LeavesBodies bound None bs = ⊤
+LeavesBodies bound (Some t) bs = Leaves (λ c. bodies bound c ≡ Ok bs) t.now
+
+-- each crash now leaves a file with the bodies of the old one and this
+abbrev pub LeavesAdded : ℕ → List ℕ → Option History → Option History → Type 0
+LeavesAdded bound body None new = ⊤
+LeavesAdded bound body (Some t) None = ⊥
+LeavesAdded bound body (Some t) (Some u) =
+    Leaves (λ c. bodies bound c ≡ with_body body (bodies bound t.now.bytes)) u.now
 
 -- Why nothing was added: it would pass the bound, or the count of the disk rose.
 abbrev pub AppendFails : (bound end n : ℕ) (before now : ℕ) → JournalFault → Type 0
@@ -72,7 +85,8 @@ abbrev pub OpenedAs : ℕ → Option History → Option History → List (List �
 OpenedAs bound None None bs end = ⊤
 OpenedAs bound None (Some u) bs end = ⊥
 OpenedAs bound (Some t) None bs end = ⊥
-OpenedAs bound (Some t) (Some u) bs end = (bodies bound t.now.bytes ≡ Ok bs) × (bodies bound u.now.bytes ≡ Ok bs) × Stands bound end (Some u)
+OpenedAs bound (Some t) (Some u) bs end =
+    (bodies bound t.now.bytes ≡ Ok bs) × (bodies bound u.now.bytes ≡ Ok bs) × Stands bound end (Some u)
 
 -- Nothing has changed; or the first sync succeeded, and each crash since then leaves a file that opens to the same.
 abbrev pub OpensOnly : ℕ → Option History → Option History → Type 0

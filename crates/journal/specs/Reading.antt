@@ -1,5 +1,5 @@
 -- What each part of the reading finds, where the file is told.
-use Rattle.std.specs.Prelude.{◌≡◌, ◌≢◌, ◌<◌, ◌≤◌, ℕ, ◌+◌, Bool, true, false, ◌&&◌, nat_lt, List, length, get_or, take, drop, Result, Ok, Err, Option, None, Some, ⊤}
+use Rattle.std.specs.Prelude.{◌≡◌, ◌≢◌, ◌<◌, ◌≤◌, ℕ, Bool, true, false, ◌&&◌, nat_lt, List, length, get_or, take, drop, Result, Ok, Err, Option, None, Some, ⊤}
 use Rattle.outside_io.specs.Disk.{History}
 use Rattle.outside_io.specs.Faults.{Rose}
 use Rattle.journal.specs.File.{bodies, record_at, size, is_entry}
@@ -15,7 +15,8 @@ Finds told bound at room (Err Disk) = ⊤
 Finds told bound at room (Err (Full length body)) = ⊥
 Finds told bound at room (Err NoMemory) = ⊥
 Finds None bound at room (Err (Damaged second offset)) = ⊤
-Finds (Some t) bound at room (Err (Damaged second offset)) = (second ≡ false) × (offset ≡ at) × (record_at bound at (drop at t.now.bytes) ≡ Err at)
+Finds (Some t) bound at room (Err (Damaged second offset)) =
+    (second ≡ false) × (offset ≡ at) × (record_at bound at (drop at t.now.bytes) ≡ Err at)
 Finds None bound at room (Ok found) = ⊤
 Finds (Some t) bound at room (Ok None) = record_at bound at (drop at t.now.bytes) ≡ Ok None
 Finds (Some t) bound at room (Ok (Some n)) = record_at bound at (drop at t.now.bytes) ≡ Ok (Some (take n room))
@@ -36,12 +37,14 @@ is_body n rest = nat_lt n (length rest) && is_entry (take n rest)
 abbrev pub Bodies : {E : Type 0} → Option History → ℕ → ℕ → List ℕ → Result Bool E → Type 0
 Bodies None at n room result = ⊤
 Bodies (Some t) at n room (Err e) = ⊤
-Bodies (Some t) at n room (Ok holds) = (holds ≡ is_body n (drop at t.now.bytes)) × (holds ≡ true → take n room ≡ take n (drop at t.now.bytes))
+Bodies (Some t) at n room (Ok holds) =
+    (holds ≡ is_body n (drop at t.now.bytes)) × (holds ≡ true → take n room ≡ take n (drop at t.now.bytes))
 
 -- these are the file's bodies, and the end is where its last gate ends
 abbrev pub LoadsAs : Option History → ℕ → List (List ℕ) → ℕ → Type 0
 LoadsAs None bound bs end = ⊤
-LoadsAs (Some t) bound bs end = (bodies bound t.now.bytes ≡ Ok bs) × (1 < length t.now.bytes → IsFile bound end t.now.bytes)
+LoadsAs (Some t) bound bs end =
+    (bodies bound t.now.bytes ≡ Ok bs) × (1 < length t.now.bytes → IsFile bound end t.now.bytes)
 
 -- the file isn't of the form, from this offset on
 abbrev pub DamagedAs : Option History → ℕ → Bool → ℕ → Type 0

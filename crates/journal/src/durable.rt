@@ -11,7 +11,8 @@ pub fn write_through<D: Disk>(disk: &mut D, at: u64, bytes: &[u8]) -> Result<(),
     requires place { Within (D.history disk.old) at }
     requires still { IsStill (D.history disk.old) }
     ensures written { OnOk result (Has (D.history disk.new) (over at bytes.now (file_in (D.history disk.old)))) }
-    ensures moments { LeavesOnly (D.history disk.old) (D.history disk.new) (Torn at (length bytes.now) (file_in (D.history disk.old))) }
+    ensures moments { LeavesOnly (D.history disk.old) (D.history disk.new)
+        (Torn at (length bytes.now) (file_in (D.history disk.old))) }
     ensures cause { HasCause (D.faults disk.old) (D.faults disk.new) result }
 {
     disk.write_at(at, bytes)?;

@@ -11,5 +11,6 @@ pub fn records_are_read()
 
 /// A law: a file that is read as some bodies has at most one byte and none, or is their records and an ending gate.
 pub fn file_is_its_records()
-    ensures { (bound : ℕ) (file : List ℕ) (bs : List (List ℕ)) → AreBytes file → bodies bound file ≡ Ok bs → ((length file ≤ 1) × (bs ≡ [])) ⊎ IsRecords bound file bs }
+    ensures { (bound : ℕ) (file : List ℕ) (bs : List (List ℕ)) → AreBytes file → bodies bound file ≡ Ok bs
+        → ((length file ≤ 1) × (bs ≡ [])) ⊎ IsRecords bound file bs }
 {}

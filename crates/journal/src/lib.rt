@@ -10,7 +10,8 @@
 //!
 //! An append writes length, body and a closed gate behind the ending gate, and syncs; then it opens that gate, which is
 //! one byte, and syncs. So a crash at any moment leaves the entries before, with the new one or without: as long as the
-//! gate is closed the new record doesn't count, whatever part of it was written, and once it is open the record is whole.
+//! gate is closed the new record doesn't count, whatever part of it was written, and once it is open the record is
+//! whole.
 //!
 //! What is promised: [`Journal::open`] gives the bodies of the file, or says at which gate it is damaged;
 //! [`Journal::append`] adds one body; and each crash image, at each moment of both, opens to the bodies before, or to

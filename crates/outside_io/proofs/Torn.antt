@@ -1,5 +1,5 @@
 -- What a crash may leave before a call it may leave after it.
-use Rattle.std.proofs.Common.{◌≡◌, ◌<◌, ◌≤◌, ℕ, ◌+◌, ◌-◌, min, max, false, ◌&&◌, ◌||◌, List, [], ◌∷◌, ◌++◌, length, get_or, take, drop, sym, ◌∙◌, ap, arith, inl, inr, length-append, length-drop}
+use Rattle.std.proofs.Common.{◌≡◌, ◌<◌, ◌≤◌, ℕ, ◌+◌, ◌-◌, false, List, [], ◌∷◌, ◌++◌, length, get_or, take, drop, sym, ◌∙◌, ap, arith, inl, inr, length-append, length-drop}
 use Rattle.std.specs.Prelude.{nat_le, nat_lt}
 use Rattle.std.specs.List.{list_any}
 use Rattle.std.proofs.lemmas.Bool.{or_parts, and_cases, leb-false, ltb-false}
@@ -39,11 +39,11 @@ before_a_write at bytes f le = λ c im. record {
     stays : (c : List ℕ) → IsImage f c → (i : ℕ) → i < length (take at f.bytes ++ bytes ++ drop (at + length bytes) f.bytes) → i < length c → (is_unsynced f i ≡ false) × (is_in i (record { from = at; to = at + length bytes }) ≡ false)
         → get_or c i 0 ≡ get_or (take at f.bytes ++ bytes ++ drop (at + length bytes) f.bytes) i 0
     stays c im i lt lt' none = elim (and_cases (nat_le at i) (nat_lt i (at + length bytes)) none.1) [
-        | inl before ↦ let small = leb-false at i before in
-            im.stays i (omega (arith, small, le)) lt' none.0 ∙ sym (early i small)
-        | inr after ↦ let large = ltb-false i (at + length bytes) after in
-            im.stays i (omega (arith, large, lt, front_long, length-append (take at f.bytes ++ bytes) (drop (at + length bytes) f.bytes), length-drop (at + length bytes) f.bytes)) lt' none.0 ∙ sym (late i large)
-      ]
+      | inl before ↦ let small = leb-false at i before in
+          im.stays i (omega (arith, small, le)) lt' none.0 ∙ sym (early i small)
+      | inr after ↦ let large = ltb-false i (at + length bytes) after in
+          im.stays i (omega (arith, large, lt, front_long, length-append (take at f.bytes ++ bytes) (drop (at + length bytes) f.bytes), length-drop (at + length bytes) f.bytes)) lt' none.0 ∙ sym (late i large)
+    ]
 
 pub before_a_cut : (n : ℕ) (f : FileState) → n ≤ length f.bytes → IsWithin (shortened n f) f
 before_a_cut n f le = λ c im. record {

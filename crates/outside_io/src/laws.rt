@@ -6,5 +6,4 @@ ghost use Rattle.outside_io.specs.Disk.{FileState, IsWithin, wrote, shortened};
 pub fn a_call_keeps_the_images_before_it()
     ensures written { (at : ℕ) (bytes : List ℕ) (f : FileState) → at ≤ length f.bytes → IsWithin (wrote at bytes f) f }
     ensures cut { (n : ℕ) (f : FileState) → n ≤ length f.bytes → IsWithin (shortened n f) f }
-{
-}
+{}

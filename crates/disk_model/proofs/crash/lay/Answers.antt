@@ -1,4 +1,4 @@
-use Rattle.std.proofs.Common.{rules, length, subst}
+use Rattle.std.proofs.Common.{rules, subst}
 use Rattle.std.specs.List.{list_any}
 use Rattle.outside_io.specs.Disk.{is_in}
 use Rattle.disk_model.specs.Overlays.{IsOverlaid}

@@ -1,4 +1,4 @@
-use Rattle.std.proofs.Common.{rules, ◌+◌, set, subst, sym, arith}
+use Rattle.std.proofs.Common.{◌+◌, set, subst, sym, arith}
 use Rattle.disk_model.specs.Overlays.{IsOverlaid}
 use Rattle.disk_model.proofs.Laid.{laid_none, empty_range, overlaid_more}
 use Rattle.disk_model.proofs.crash.overlay.Goals as goal

@@ -1,4 +1,4 @@
-use Rattle.std.proofs.Common.{rules, ◌≡◌, ◌+◌, min, take, refl, subst, sym, ◌∙◌, ap, arith, length, get_or}
+use Rattle.std.proofs.Common.{◌≡◌, min, refl, subst, ◌∙◌, ap, length, get_or}
 use Rattle.std.proofs.lemmas.List.{take_all}
 use Rattle.outside_io.specs.declared.disk.Span.{Span}
 use Rattle.disk_model.specs.Overlays.{IsOverlaid, AreOverlaid}

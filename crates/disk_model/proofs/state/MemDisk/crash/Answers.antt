@@ -1,13 +1,13 @@
-use Rattle.std.proofs.Common.{rules, ◌≡◌, ◌≤◌, ◌||◌, List, ℕ, [], length, take, drop, reverse, min, max, refl, sym, subst, ap, ◌∙◌, arith}
+use Rattle.std.proofs.Common.{rules, ◌≡◌, ◌||◌, List, ℕ, [], length, take, drop, reverse, min, refl, sym, subst, ap, ◌∙◌, arith}
 use Rattle.std.specs.Prelude.{nat_le}
 use Rattle.std.specs.List.{list_any}
-use Rattle.std.proofs.lemmas.List.{length-take-le, take_all, take_at}
+use Rattle.std.proofs.lemmas.List.{take_all, take_at}
 use Rattle.std.specs.Vec.{with_items}
 use Rattle.disk_model.specs.declared.state.Undo.{Undo}
-use Rattle.outside_io.specs.Disk.{kept, FileState, History, is_in}
+use Rattle.outside_io.specs.Disk.{FileState, is_in}
 use Rattle.disk_model.specs.Overlays.{IsLaid}
 use Rattle.disk_model.specs.Picked.{picked, picked_length}
-use Rattle.disk_model.specs.States.{state_of, history_of, pasts}
+use Rattle.disk_model.specs.States.{state_of, pasts}
 use Rattle.disk_model.proofs.Pick.{picked_is_image, picked_from_laid, length-picked}
 use Rattle.disk_model.proofs.state.MemDisk.crash.Goals as goal
 
