@@ -1,0 +1,5 @@
+#![tactic(auto)]
+
+mod entries;
+
+pub use lease_spec::{Effect, EffectList, Outcome, Phase, Row};
