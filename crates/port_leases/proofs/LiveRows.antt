@@ -8,6 +8,7 @@ use Rattle.lease_spec.specs.declared.row.Phase.{Phase}
 use Rattle.lease_spec.specs.Table.{at_phase, move, row_at}
 use Rattle.port_leases.specs.declared.entries.Entry.{Entry}
 use Rattle.port_leases.specs.Entries.{AllAbove, Ascend, SplitsAt, HasAt, Lacks, at_number, dead, live_rows, next_number, row_of, with_row}
+use Rattle.port_leases.specs.Effects.{boot_effects, cleared_effects}
 use Rattle.port_leases.specs.TableState.{row_above}
 use Rattle.port_leases.proofs.Places.{above_at}
 
@@ -83,3 +84,8 @@ live_rows-push (e ∷ es) row = grind (arith, live_rows-push es row)
 pub live_rows-filter : (es : List Entry) → live_rows (filter (λ e. e.live) es) ≡ live_rows es
 live_rows-filter [] = refl
 live_rows-filter (e ∷ es) = grind (arith, live_rows-filter es)
+
+-- what a raised boot does to the entries is what it does to their rows
+pub cleared_effects-live : (agent boot : ℕ) (es : List Entry) → cleared_effects agent boot es ≡ boot_effects agent boot (live_rows es)
+cleared_effects-live agent boot [] = refl
+cleared_effects-live agent boot (e ∷ es) = grind (arith, cleared_effects-live agent boot es)

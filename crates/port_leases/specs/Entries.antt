@@ -72,3 +72,8 @@ pub record Numbered : Type 0 where
   pub rows : List Row
   pub next : ℕ
   pub room : ℕ
+
+-- numbers ascend, and so many entries are live
+pub record IsCounted (es : List Entry) (live : ℕ) : Type 0 where
+  pub ascend : Ascend es
+  pub count : live ≡ length (live_rows es)

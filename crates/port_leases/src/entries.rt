@@ -1,4 +1,4 @@
-ghost use Rattle.std.specs.Prelude.{◌≡◌, ◌+◌, find, map, if◌then◌else◌};
+ghost use Rattle.std.specs.Prelude.{◌≡◌, ◌≤◌, ◌+◌, find, filter, map, vec_len, vec_capacity, if◌then◌else◌};
 ghost use Rattle.lease_spec.specs.Table.{at_phase, cleared, is_stale, row_at};
 ghost use Rattle.port_leases.specs.Entries.{Ascend, IsPlace, SplitsAt, at_number, dead, live_rows, row_of, with_row};
 ghost use Rattle.port_leases.specs.TableState.{row_above};
@@ -13,7 +13,7 @@ pub struct Entry {
 }
 
 /// Whether a raised boot of the agent ends the row.
-fn is_stale(row: Row, agent: u16, boot: u64) -> bool
+pub fn is_stale(row: Row, agent: u16, boot: u64) -> bool
     ensures { result ≡ is_stale agent boot row }
 {
     row.agent == agent && row.boot < boot && row.phase != Phase::Freeing
@@ -123,9 +123,11 @@ pub fn row_above(entries: &[Entry], n: u64) -> Option<Row>
 }
 
 /// The row with this number goes to a phase.
-pub fn set_phase(entries: &mut [Entry], n: u64, phase: Phase)
-    requires { Ascend entries.old }
-    ensures { entries.new ≡ map (at_number n (with_row (at_phase phase))) entries.old }
+pub fn set_phase(entries: &mut Vec<Entry>, n: u64, phase: Phase)
+    requires { Ascend entries.old.items }
+    ensures entries { entries.new.items ≡ map (at_number n (with_row (at_phase phase))) entries.old.items }
+    ensures len { vec_len entries.new ≡ vec_len entries.old }
+    ensures room { vec_capacity entries.new ≡ vec_capacity entries.old }
 {
     if let Some(i) = place_of(entries, n) {
         entries[i] = entries[i].at_phase(phase);
@@ -133,9 +135,11 @@ pub fn set_phase(entries: &mut [Entry], n: u64, phase: Phase)
 }
 
 /// The row with this number leaves.
-pub fn bury(entries: &mut [Entry], n: u64)
-    requires { Ascend entries.old }
-    ensures { entries.new ≡ map (at_number n dead) entries.old }
+pub fn bury(entries: &mut Vec<Entry>, n: u64)
+    requires { Ascend entries.old.items }
+    ensures entries { entries.new.items ≡ map (at_number n dead) entries.old.items }
+    ensures len { vec_len entries.new ≡ vec_len entries.old }
+    ensures room { vec_capacity entries.new ≡ vec_capacity entries.old }
 {
     if let Some(i) = place_of(entries, n) {
         entries[i] = entries[i].dead();
@@ -143,10 +147,28 @@ pub fn bury(entries: &mut [Entry], n: u64)
 }
 
 /// The agent's rows of lower boots are Freeing from now on.
-pub fn clear_lower(entries: &mut [Entry], agent: u16, boot: u64)
+fn clear_each(entries: &mut [Entry], agent: u16, boot: u64)
     ensures { entries.new ≡ map (with_row (cleared agent boot)) entries.old }
 {
     for e in entries.iter_mut() {
         *e = e.cleared(agent, boot);
     }
+}
+
+/// The agent's rows of lower boots are Freeing from now on.
+pub fn clear_lower(entries: &mut Vec<Entry>, agent: u16, boot: u64)
+    ensures entries { entries.new.items ≡ map (with_row (cleared agent boot)) entries.old.items }
+    ensures len { vec_len entries.new ≡ vec_len entries.old }
+    ensures room { vec_capacity entries.new ≡ vec_capacity entries.old }
+{
+    clear_each(entries, agent, boot);
+}
+
+/// Entries without a row leave.
+pub fn compact(entries: &mut Vec<Entry>)
+    ensures entries { entries.new.items ≡ filter (λ e. e.live) entries.old.items }
+    ensures len { vec_len entries.new ≤ vec_len entries.old }
+    ensures room { vec_capacity entries.new ≡ vec_capacity entries.old }
+{
+    entries.retain(|e| e.live);
 }

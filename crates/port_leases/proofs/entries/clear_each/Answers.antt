@@ -3,7 +3,7 @@ use Rattle.port_leases.specs.Entries.{with_row}
 use Rattle.std.proofs.Common.{ap, set, arith, ◌∙◌}
 use Rattle.std.proofs.lemmas.List.Edits.{map_over_more}
 use Rattle.std.proofs.lemmas.List.{get_or_default}
-use Rattle.port_leases.proofs.entries.clear_lower.Goals as goal
+use Rattle.port_leases.proofs.entries.clear_each.Goals as goal
 
 pub loop-e-preserved : goal.loop-e-preserved
 loop-e-preserved c =

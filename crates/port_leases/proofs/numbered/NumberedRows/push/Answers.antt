@@ -1,0 +1,26 @@
+use Rattle.std.proofs.Common.{◌≡◌, ◌≤◌, ◌+◌, ◌∷◌, [], ◌++◌, length, subst, sym, ap, ◌∙◌, arith}
+use Rattle.port_leases.specs.Entries.{IsCounted, live_rows, next_number, Numbered}
+use Rattle.port_leases.proofs.LiveRows.{live_rows-push}
+use Rattle.port_leases.proofs.Counted.{counted-push, next-push, live-le-length}
+use Rattle.port_leases.proofs.numbered.NumberedRows.push.Goals as goal
+
+pub overflow_add-self : goal.overflow_add-self
+overflow_add-self c =
+    let few : length (live_rows c.self.inside.entries.items) ≤ length c.self.inside.entries.items = live-le-length c.self.inside.entries.items in
+    let count : c.self.inside.live ≡ length (live_rows c.self.inside.entries.items) = c.self.invariant.count in
+    omega arith
+
+pub invariant_of-self : goal.invariant_of-self
+invariant_of-self c =
+    let next : next_number c.self.inside.entries.items ≤ c.args.row.n = let is = ap (λ (v : Numbered). v.next) c.self.view_is in rw is c.requires.next in
+    subst (λ es. IsCounted es (c.self.inside.live + 1)) (sym c.push_reserved.ensures.items)
+      (counted-push c.self.inside.entries.items c.args.row c.self.inside.live c.self.invariant next)
+
+pub returns-clause-rows : goal.returns-clause-rows
+returns-clause-rows c =
+    ap live_rows c.push_reserved.ensures.items ∙ live_rows-push c.self.inside.entries.items c.args.row ∙ ap (λ (v : Numbered). v.rows ++ c.args.row ∷ []) c.self.view_is
+
+pub returns-clause-next : goal.returns-clause-next
+returns-clause-next c =
+    let next : next_number c.self.inside.entries.items ≤ c.args.row.n = let is = ap (λ (v : Numbered). v.next) c.self.view_is in rw is c.requires.next in
+    ap next_number c.push_reserved.ensures.items ∙ next-push c.self.inside.entries.items _ next
