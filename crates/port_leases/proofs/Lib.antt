@@ -1,3 +1,4 @@
 pub mod Places
 pub mod LiveRows
 pub mod Counted
+pub mod Indexed

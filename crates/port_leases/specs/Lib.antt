@@ -1,3 +1,4 @@
 pub mod Entries
 pub mod Effects
+pub mod Rows
 pub mod TableState

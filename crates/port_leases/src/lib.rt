@@ -3,5 +3,6 @@
 mod effects;
 mod entries;
 mod numbered;
+mod rows;
 
 pub use lease_spec::{Effect, EffectList, Outcome, Phase, Row};

@@ -101,6 +101,7 @@ impl NumberedRows {
     pub fn remove(&mut self, n: u64)
         requires { IsSome (row_at self.old.rows n) }
         ensures rows { self.new.rows ≡ filter (λ row. not (row.n == n)) self.old.rows }
+        ensures ascend { RowsAscend self.old.rows }
         ensures next { self.new.next ≤ self.old.next }
         ensures room { self.old.room ≤ self.new.room }
     {

@@ -1,8 +1,8 @@
 use Rattle.std.proofs.Common.{◌≡◌, ◌≤◌, ◌-◌, ◌==◌, not, filter, IsSome, subst, sym, ap, ◌∙◌, arith}
 use Rattle.lease_spec.specs.Table.{row_at}
-use Rattle.port_leases.specs.Entries.{IsCounted, live_rows, next_number, Numbered}
+use Rattle.port_leases.specs.Entries.{IsCounted, live_rows, next_number, Numbered, RowsAscend}
 use Rattle.port_leases.proofs.LiveRows.{live_rows-bury, live_rows-filter}
-use Rattle.port_leases.proofs.Counted.{counted-bury, counted-compact, next-bury, next-compact}
+use Rattle.port_leases.proofs.Counted.{counted-bury, counted-compact, next-bury, next-compact, rows_ascend}
 use Rattle.port_leases.proofs.numbered.NumberedRows.remove.Goals as goal
 
 pub invariant_of-self : goal.invariant_of-self
@@ -38,3 +38,9 @@ pub returns-else-self-len-clause-next : goal.returns-else-self-len-clause-next
 returns-else-self-len-clause-next c =
     let was = ap next_number c.bury.ensures.entries ∙ next-bury c.args.n c.self.inside.entries.items ∙ ap (λ (v : Numbered). v.next) c.self.view_is in
     omega (arith, was)
+
+pub returns-then-self-len-clause-ascend : goal.returns-then-self-len-clause-ascend
+returns-then-self-len-clause-ascend c = subst (λ (v : Numbered). RowsAscend v.rows) c.self.view_is (rows_ascend c.self.inside.entries.items c.self.invariant.ascend)
+
+pub returns-else-self-len-clause-ascend : goal.returns-else-self-len-clause-ascend
+returns-else-self-len-clause-ascend c = subst (λ (v : Numbered). RowsAscend v.rows) c.self.view_is (rows_ascend c.self.inside.entries.items c.self.invariant.ascend)

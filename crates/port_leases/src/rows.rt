@@ -1,0 +1,204 @@
+ghost use Rattle.std.specs.Prelude.{◌≡◌, ◌<◌, ◌≤◌, ◌+◌, ◌-◌, ◌^◌, ◌++◌, ◌∷◌, [], true, not, ◌==◌, ◌||◌, if◌then◌else◌, map, filter, length, Some, unwrap_or, OnOk};
+ghost use Rattle.indexmap.specs.IndexMap.{get, spare};
+ghost use Rattle.lease_spec.specs.Free.{has_no_row, same_range};
+ghost use Rattle.lease_spec.specs.Table.{cleared, move, row_at, row_count};
+ghost use Rattle.port_leases.specs.Effects.{Adds, boot_effects};
+ghost use Rattle.port_leases.specs.Rows.{same_address};
+ghost use Rattle.port_leases.specs.TableState.{row_above, row_on};
+
+use crate::effects::Effects;
+use crate::numbered::NumberedRows;
+use indexmap::IndexMap;
+use lease_spec::{Phase, Row};
+use std::alloc::Global;
+use std::marker::Model;
+use wire_core::{Ip4, NoMemory, Range};
+
+/// The rows, found by number and by range, and how many each machine has. At most one row has a range.
+#[derive(Drop)]
+pub struct Rows {
+    rows: NumberedRows,
+    /// The number of the row on each range that has one.
+    numbers: IndexMap<Range, u64>,
+    /// How many rows a machine has, where it ever had one.
+    counts: IndexMap<Ip4, u32>,
+}
+
+impl Model for Rows {
+    ghost use Rattle.std.specs.Prelude.{min};
+
+    ghost use Rattle.indexmap.specs.IndexMap.{get, spare};
+
+    ghost use Rattle.lease_spec.specs.Free.{same_range};
+
+    ghost use Rattle.port_leases.specs.Entries.{Numbered};
+
+    ghost use Rattle.port_leases.specs.Rows.{IsIndexed, same_address};
+
+    ghost Value = { Numbered };
+
+    ghost view = { λ t. record { rows = t.rows.rows; next = t.rows.next; room = min t.rows.room (min (spare t.numbers) (spare t.counts)) } };
+
+    ghost invariant = { λ t. IsIndexed t.rows.rows (get same_range t.numbers) (get same_address t.counts) };
+}
+
+/// How many rows the machine has.
+fn count_of(counts: &IndexMap<Ip4, u32>, machine: Ip4) -> u32
+    ensures { result ≡ unwrap_or (get same_address counts.now machine) 0 }
+{
+    match counts.get(&machine) {
+        Some(count) => *count,
+        None => 0,
+    }
+}
+
+/// One more row of the machine.
+fn count_up(counts: &mut IndexMap<Ip4, u32>, machine: Ip4)
+    requires room { 0 < spare counts.old }
+    requires few { unwrap_or (get same_address counts.old machine) 0 < 2 ^ 32 - 1 }
+    ensures count { (m : Ip4) → get same_address counts.new m ≡ (if same_address machine m then Some (unwrap_or (get same_address counts.old machine) 0 + 1) else get same_address counts.old m) }
+    ensures room { spare counts.old ≤ spare counts.new + 1 }
+{
+    let count = count_of(counts, machine);
+    counts.insert(machine, count + 1).unwrap();
+}
+
+/// One row less of the machine.
+fn count_down(counts: &mut IndexMap<Ip4, u32>, machine: Ip4)
+    requires { 0 < unwrap_or (get same_address counts.old machine) 0 }
+    ensures count { (m : Ip4) → get same_address counts.new m ≡ (if same_address machine m then Some (unwrap_or (get same_address counts.old machine) 0 - 1) else get same_address counts.old m) }
+    ensures room { spare counts.old ≤ spare counts.new }
+{
+    if let Some(count) = counts.get_mut(&machine) {
+        *count -= 1;
+    }
+}
+
+/// The number of the row on a range.
+fn put_number(numbers: &mut IndexMap<Range, u64>, range: Range, n: u64)
+    requires { 0 < spare numbers.old }
+    ensures number { (r : Range) → get same_range numbers.new r ≡ (if same_range range r then Some n else get same_range numbers.old r) }
+    ensures room { spare numbers.old ≤ spare numbers.new + 1 }
+{
+    numbers.insert(range, n).unwrap();
+}
+
+/// The range has no row any more.
+fn drop_number(numbers: &mut IndexMap<Range, u64>, range: Range)
+    ensures number { (r : Range) → get same_range numbers.new r ≡ (if same_range range r then None else get same_range numbers.old r) }
+    ensures room { spare numbers.old ≤ spare numbers.new }
+{
+    numbers.swap_remove(&range);
+}
+
+impl Rows {
+    /// No rows.
+    pub fn new(alloc: Global) -> Rows
+        ensures rows { result.rows ≡ [] }
+        ensures next { result.next ≡ 0 }
+    {
+        Rows {
+            rows: NumberedRows::new(alloc),
+            numbers: IndexMap::new(alloc),
+            counts: IndexMap::new(alloc),
+        }
+    }
+
+    /// The number of rows.
+    pub fn len(&self) -> usize
+        ensures { result ≡ length self.now.rows }
+    {
+        self.rows.len()
+    }
+
+    /// The row with this number.
+    pub fn row_at(&self, n: u64) -> Option<Row>
+        ensures { result ≡ row_at self.now.rows n }
+    {
+        self.rows.row_at(n)
+    }
+
+    /// The row with the least number above this one.
+    pub fn row_above(&self, n: u64) -> Option<Row>
+        ensures { result ≡ row_above self.now.rows n }
+    {
+        self.rows.row_above(n)
+    }
+
+    /// The row on this range.
+    pub fn row_on(&self, r: Range) -> Option<Row>
+        ensures { result ≡ row_on self.now.rows r }
+    {
+        match self.numbers.get(&r) {
+            Some(n) => self.rows.row_at(*n),
+            None => None,
+        }
+    }
+
+    /// How many rows the machine has, in any phase.
+    pub fn count(&self, machine: Ip4) -> u32
+        ensures { result ≡ row_count self.now.rows machine }
+    {
+        count_of(&self.counts, machine)
+    }
+
+    /// Makes room for so many more rows.
+    pub fn reserve(&mut self, more: usize) -> Result<(), NoMemory>
+        ensures rows { self.new.rows ≡ self.old.rows }
+        ensures next { self.new.next ≡ self.old.next }
+        ensures room { OnOk result (more ≤ self.new.room) }
+    {
+        self.rows.reserve(more)?;
+        self.numbers.reserve(more)?;
+        self.counts.reserve(more)?;
+        Ok(())
+    }
+
+    /// One more row, on a range without a row, whose number is above each number that there was.
+    pub fn push(&mut self, row: Row)
+        requires room { 0 < self.old.room }
+        requires next { self.old.next ≤ row.n }
+        requires free { has_no_row self.old.rows row.range ≡ true }
+        requires few { row_count self.old.rows row.machine < 2 ^ 32 - 1 }
+        ensures rows { self.new.rows ≡ self.old.rows ++ row ∷ [] }
+        ensures next { self.new.next ≡ row.n + 1 }
+        ensures room { self.old.room ≤ self.new.room + 1 }
+    {
+        count_up(&mut self.counts, row.machine);
+        put_number(&mut self.numbers, row.range, row.n);
+        self.rows.push(row);
+    }
+
+    /// The row with this number goes to a phase.
+    pub fn set_phase(&mut self, n: u64, phase: Phase)
+        ensures rows { self.new.rows ≡ move n phase self.old.rows }
+        ensures next { self.new.next ≡ self.old.next }
+        ensures room { self.new.room ≡ self.old.room }
+    {
+        self.rows.set_phase(n, phase);
+    }
+
+    /// A row leaves. Its range has no row then.
+    pub fn remove(&mut self, row: &Row)
+        requires { row_at self.old.rows row.now.n ≡ Some row.now }
+        ensures rows { self.new.rows ≡ filter (λ other. not (other.n == row.now.n)) self.old.rows }
+        ensures free { (r : Range) → has_no_row self.new.rows r ≡ (same_range row.now.range r || has_no_row self.old.rows r) }
+        ensures next { self.new.next ≤ self.old.next }
+        ensures room { self.old.room ≤ self.new.room }
+    {
+        count_down(&mut self.counts, row.machine);
+        drop_number(&mut self.numbers, row.range);
+        self.rows.remove(row.n);
+    }
+
+    /// Ends the agent's rows of lower boots, and tells of each in the order of their numbers.
+    pub fn clear_lower(&mut self, agent: u16, boot: u64, effects: &mut Effects)
+        requires { length (boot_effects agent boot self.old.rows) ≤ effects.old.room }
+        ensures rows { self.new.rows ≡ map (cleared agent boot) self.old.rows }
+        ensures effects { Adds effects.old effects.new (boot_effects agent boot self.old.rows) }
+        ensures next { self.new.next ≡ self.old.next }
+        ensures room { self.new.room ≡ self.old.room }
+    {
+        self.rows.clear_lower(agent, boot, effects);
+    }
+}
