@@ -2,3 +2,4 @@ pub mod Places
 pub mod LiveRows
 pub mod Counted
 pub mod Indexed
+pub mod Blocks
