@@ -186,7 +186,7 @@ one_at b h = rw h refl
 none_at : (b : Bool) → b ≡ false → ◌≡◌ {A = ℕ} (cond b 1 0) 0
 none_at b h = rw h refl
 
-by_test : {X : Type 0} (b : Bool) → (b ≡ true → X) → (b ≡ false → X) → X
+pub by_test : {X : Type 0} (b : Bool) → (b ≡ true → X) → (b ≡ false → X) → X
 by_test true hit miss = hit refl
 by_test false hit miss = miss refl
 

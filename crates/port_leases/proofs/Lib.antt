@@ -3,3 +3,5 @@ pub mod LiveRows
 pub mod Counted
 pub mod Indexed
 pub mod Blocks
+pub mod RequestLists
+pub mod Stored

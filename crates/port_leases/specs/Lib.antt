@@ -1,5 +1,7 @@
 pub mod Entries
 pub mod Effects
+pub mod Requests
 pub mod Rows
 pub mod Starts
+pub mod Store
 pub mod TableState

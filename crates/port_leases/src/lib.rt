@@ -1,9 +1,12 @@
 #![tactic(auto)]
 
+mod commands;
 mod effects;
 mod entries;
 mod numbered;
+mod requests;
 mod rows;
 mod starts;
+mod store;
 
 pub use lease_spec::{Effect, EffectList, Outcome, Phase, Row};

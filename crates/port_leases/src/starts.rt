@@ -89,11 +89,13 @@ impl Starts {
         })
     }
 
-    /// Whether the start with this index is free.
+    /// Whether the start with this index is free from now on. An index past the starts changes nothing.
     pub fn set(&mut self, i: usize, free: bool)
-        requires { i < length self.old }
         ensures { self.new ≡ slice_set self.old i free }
     {
+        if i >= self.free.len() {
+            return;
+        }
         let block = i / BLOCK;
         self.free[i] = free;
         self.blocks[block] = any_in_block(&self.free, block);
@@ -101,7 +103,6 @@ impl Starts {
 
     /// The least free start.
     pub fn first(&self) -> Option<u16>
-        requires { length self.now ≤ 8192 }
         ensures { result ≡ first_flag 8 0 self.now }
     {
         match first(&self.blocks, 0, 512) {

@@ -1,6 +1,6 @@
-use Rattle.std.proofs.Common.{◌≡◌, refl, None, Some, sym, ap, subst, ◌∙◌}
+use Rattle.std.proofs.Common.{◌≡◌, refl, None, Some, sym, ap, subst, length, arith, ◌∙◌}
 use Rattle.port_leases.specs.Starts.{IsFound, first_flag}
-use Rattle.port_leases.proofs.Blocks.{found, not_found}
+use Rattle.port_leases.proofs.Blocks.{covered, found, not_found}
 use Rattle.port_leases.proofs.starts.Starts.first.Goals as goal
 
 pub first_start-requires-clause-found : goal.first_start-requires-clause-found
@@ -13,3 +13,9 @@ pub returns-in-None : goal.returns-in-None
 returns-in-None c =
     let none = sym (ap (first_flag 512 0) c.deref.ensures.value) ∙ sym c.first.ensures ∙ c.in-None.is in
     sym (ap (first_flag 8 0) (sym c.self.view_is) ∙ not_found 64 512 0 c.self.inside.blocks.items c.self.inside.free.items refl c.self.invariant.sums none)
+
+pub first_start-requires-clause-within : goal.first_start-requires-clause-within
+first_start-requires-clause-within c =
+    let few = covered 64 c.self.inside.blocks.items c.self.inside.free.items c.self.invariant.sums in
+    let long = ap length c.deref-in-Some.ensures.value in
+    omega (arith, few, long, c.self.invariant.few)

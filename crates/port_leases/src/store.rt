@@ -1,0 +1,289 @@
+ghost use Rattle.std.specs.Prelude.{◌≡◌, ◌<◌, ◌≤◌, ◌+◌, ◌*◌, ◌/◌, ◌^◌, ◌-◌, ◌++◌, ◌∷◌, [], true, false, not, ◌==◌, filter, nat_le, length, slice_set, Some, None, option_map, if◌then◌else◌, IfSome, IfNone, OnOk, OnErr, IfOk};
+ghost use Rattle.indexmap.specs.IndexMap.{get};
+ghost use Rattle.lease_spec.specs.Free.{is_free, least_free};
+ghost use Rattle.lease_spec.specs.Table.{decide, is_later, known_boot, last_of, move, noted, raise_known, row_at, row_count, rule_of};
+ghost use Rattle.port_leases.specs.Effects.{Adds};
+ghost use Rattle.port_leases.specs.Rows.{same_address};
+ghost use Rattle.port_leases.specs.Store.{first_of};
+ghost use Rattle.port_leases.specs.TableState.{has_vip, row_above, row_on};
+ghost use Rattle.port_leases.specs.Requests.{last_with};
+ghost use Rattle.wire_core.specs.declared.address.Ip4 as ip;
+
+use crate::effects::Effects;
+use crate::requests::{self, Request};
+use crate::rows::Rows;
+use crate::starts::Starts;
+use indexmap::IndexMap;
+use lease_spec::{Effect, Outcome, Phase, Row};
+use std::alloc::Global;
+use std::marker::Model;
+use wire_core::{Ip4, LeaseRules, MachineRule, NoMemory, Range, VipRule};
+
+/// The rules, and what stands now.
+#[derive(Drop)]
+pub struct Store {
+    rules: LeaseRules,
+    /// The rule of each machine.
+    machines: IndexMap<Ip4, MachineRule>,
+    /// The free starts of each VIP.
+    vips: IndexMap<Ip4, Starts>,
+    rows: Rows,
+    /// The known boot of each agent that had one.
+    known: IndexMap<u16, u64>,
+    /// The last request of each machine that made one.
+    lasts: IndexMap<Ip4, Request>,
+}
+
+impl Model for Store {
+    ghost use Rattle.std.specs.Prelude.{min};
+
+    ghost use Rattle.indexmap.specs.IndexMap.{get, spare};
+
+    ghost use Rattle.port_leases.specs.Rows.{same_address};
+
+    ghost use Rattle.port_leases.specs.Store.{IsStored, StoreState, known_of, lasts_of};
+
+    ghost Value = { StoreState };
+
+    ghost view = { λ t. record { rules = t.rules; leases = record { rows = t.rows.rows; known = known_of t.known.entries; lasts = lasts_of t.lasts.entries }; next = t.rows.next; room = min t.rows.room (min (spare t.known) (spare t.lasts)) } };
+
+    ghost invariant = { λ t. IsStored t.rules t.rows.rows (get same_address t.machines) (get same_address t.vips) };
+}
+
+/// The least free start of a VIP.
+fn first_free(vips: &IndexMap<Ip4, Starts>, vip: Ip4) -> Option<u16>
+    ensures { result ≡ first_of (get same_address vips.now vip) }
+{
+    match vips.get(&vip) {
+        Some(starts) => starts.first(),
+        None => None,
+    }
+}
+
+/// A range is free from now on, or isn't any more.
+fn set_free(vips: &mut IndexMap<Ip4, Starts>, range: Range, free: bool)
+    ensures { (v : ip.Ip4) → get same_address vips.new v ≡ (if same_address range.vip v then option_map (λ flags. slice_set flags (range.start / 8) free) (get same_address vips.old range.vip) else get same_address vips.old v) }
+{
+    if let Some(starts) = vips.get_mut(&range.vip) {
+        starts.set(usize::from(range.start / 8), free);
+    }
+}
+
+/// The rule of a machine.
+fn rule_of(machines: &IndexMap<Ip4, MachineRule>, machine: Ip4) -> Option<MachineRule>
+    ensures { result ≡ get same_address machines.now machine }
+{
+    machines.get(&machine).copied()
+}
+
+impl Store {
+    /// The row with this number.
+    pub fn row_at(&self, n: u64) -> Option<Row>
+        ensures { result ≡ row_at self.now.leases.rows n }
+    {
+        self.rows.row_at(n)
+    }
+
+    /// The row with the least number above this one.
+    pub fn row_above(&self, n: u64) -> Option<Row>
+        ensures { result ≡ row_above self.now.leases.rows n }
+    {
+        self.rows.row_above(n)
+    }
+
+    /// The row on this range.
+    pub fn row_on(&self, r: Range) -> Option<Row>
+        ensures { result ≡ row_on self.now.leases.rows r }
+    {
+        self.rows.row_on(r)
+    }
+
+    /// The agent's known boot, at first 0.
+    pub fn known_boot(&self, agent: u16) -> u64
+        ensures { result ≡ known_boot self.now.leases.known agent }
+    {
+        requests::known_boot(&self.known, agent)
+    }
+
+    /// The machine's last request.
+    pub fn last_of(&self, machine: Ip4) -> Option<Request>
+        ensures { option_map (last_with machine) result ≡ last_of self.now.leases.lasts machine }
+    {
+        requests::last_of(&self.lasts, machine)
+    }
+
+    /// Whether a request of this boot and seq comes later than the machine's last one.
+    pub fn is_later(&self, machine: Ip4, boot: u64, seq: u64) -> bool
+        ensures { result ≡ is_later boot seq (last_of self.now.leases.lasts machine) }
+    {
+        requests::is_later(&self.lasts, machine, boot, seq)
+    }
+
+    /// The machine's rule.
+    pub fn rule_of(&self, machine: Ip4) -> Option<MachineRule>
+        ensures { result ≡ rule_of self.now.rules machine }
+    {
+        rule_of(&self.machines, machine)
+    }
+
+    /// Whether the rules name the VIP.
+    pub fn has_vip(&self, vip: Ip4) -> bool
+        ensures { result ≡ has_vip self.now.rules vip }
+    {
+        self.vips.contains_key(&vip)
+    }
+
+    /// The number of rows.
+    pub fn len(&self) -> usize
+        ensures { result ≡ length self.now.leases.rows }
+    {
+        self.rows.len()
+    }
+
+    /// Makes room for so many more rows, agents and machines.
+    pub fn reserve_room(&mut self, more: usize) -> Result<(), NoMemory>
+        ensures rules { self.new.rules ≡ self.old.rules }
+        ensures leases { self.new.leases ≡ self.old.leases }
+        ensures next { self.new.next ≡ self.old.next }
+        ensures room { OnOk result (more ≤ self.new.room) }
+    {
+        self.rows.reserve(more)?;
+        self.known.reserve(more)?;
+        self.lasts.reserve(more)?;
+        Ok(())
+    }
+
+    /// A raised boot of an agent becomes known, and ends its rows of lower boots.
+    #[tactic(auto, unfolding(lease_spec::specs::Table::raise_known))]
+    pub fn raise_known(&mut self, agent: u16, boot: u64, effects: &mut Effects)
+        requires room { 0 < self.old.room }
+        requires effects { length (raise_known agent boot self.old.leases).effects ≤ effects.old.room }
+        ensures rules { self.new.rules ≡ self.old.rules }
+        ensures leases { self.new.leases ≡ (raise_known agent boot self.old.leases).leases }
+        ensures next { self.new.next ≡ self.old.next }
+        ensures room { self.old.room ≤ self.new.room + 1 }
+        ensures effects { Adds effects.old effects.new (raise_known agent boot self.old.leases).effects }
+    {
+        if requests::known_boot(&self.known, agent) < boot {
+            self.rows.clear_lower(agent, boot, effects);
+            requests::put_known(&mut self.known, agent, boot);
+        }
+    }
+
+    /// What the machine's last request came to.
+    fn note(&mut self, machine: Ip4, boot: u64, seq: u64, outcome: Outcome)
+        requires { 0 < self.old.room }
+        ensures rules { self.new.rules ≡ self.old.rules }
+        ensures leases { self.new.leases ≡ noted machine boot seq outcome self.old.leases }
+        ensures next { self.new.next ≡ self.old.next }
+        ensures room { self.old.room ≤ self.new.room + 1 }
+    {
+        requests::put_last(&mut self.lasts, machine, Request { boot, seq, outcome });
+    }
+
+    /// A row on a free range.
+    fn take(&mut self, row: Row)
+        requires room { 0 < self.old.room }
+        requires next { self.old.next ≤ row.n }
+        requires few { row_count self.old.leases.rows row.machine < 2 ^ 32 - 1 }
+        requires free { is_free self.old.rules self.old.leases.rows row.range ≡ true }
+        ensures rules { self.new.rules ≡ self.old.rules }
+        ensures leases { self.new.leases ≡ record self.old.leases { rows = self.old.leases.rows ++ row ∷ [] } }
+        ensures next { self.new.next ≡ row.n + 1 }
+        ensures room { self.old.room ≤ self.new.room + 1 }
+    {
+        self.rows.push(row);
+        set_free(&mut self.vips, row.range, false);
+    }
+
+    /// The row with this number goes to a phase.
+    pub fn set_phase(&mut self, n: u64, phase: Phase)
+        ensures rules { self.new.rules ≡ self.old.rules }
+        ensures leases { self.new.leases ≡ record self.old.leases { rows = move n phase self.old.leases.rows } }
+        ensures next { self.new.next ≡ self.old.next }
+        ensures room { self.new.room ≡ self.old.room }
+    {
+        self.rows.set_phase(n, phase);
+    }
+
+    /// A row leaves. Its range is free then, where it may be leased.
+    pub fn remove(&mut self, row: &Row)
+        requires { row_at self.old.leases.rows row.now.n ≡ Some row.now }
+        ensures rules { self.new.rules ≡ self.old.rules }
+        ensures leases { self.new.leases ≡ record self.old.leases { rows = filter (λ other. not (other.n == row.now.n)) self.old.leases.rows } }
+        ensures next { self.new.next ≤ self.old.next }
+        ensures room { self.old.room ≤ self.new.room }
+    {
+        self.rows.remove(row);
+        if self.rules.leasable(&row.range) {
+            set_free(&mut self.vips, row.range, true);
+        }
+    }
+
+    /// How many rows the machine has, where they are as many as a machine may have.
+    fn limit_reached(&self, machine: Ip4) -> Option<u32>
+        ensures count { result ≡ (if nat_le self.now.rules.limit (row_count self.now.leases.rows machine) then Some (row_count self.now.leases.rows machine) else None) }
+        ensures few { IfNone result (row_count self.now.leases.rows machine < 2 ^ 32 - 1) }
+    {
+        let count = self.rows.count(machine);
+        if self.rules.limit <= count {
+            Some(count)
+        } else {
+            None
+        }
+    }
+
+    /// The free range of the VIP with the least start.
+    fn least_free(&self, vip: Ip4) -> Option<Range>
+        ensures range { result ≡ least_free self.now.rules self.now.leases.rows vip }
+        ensures free { IfSome result (λ r. is_free self.now.rules self.now.leases.rows r ≡ true) }
+    {
+        match first_free(&self.vips, vip) {
+            Some(start) => Some(Range { vip, start }),
+            None => None,
+        }
+    }
+
+    /// What a request with an effect comes to.
+    #[tactic(auto, unfolding(lease_spec::specs::Table::decide))]
+    pub fn decide(&mut self, place: u64, boot: u64, rule: MachineRule, seq: u64) -> Effect
+        requires room { 1 < self.old.room }
+        requires next { self.old.next ≤ place }
+        ensures rules { self.new.rules ≡ self.old.rules }
+        ensures done { decide self.old.rules place boot rule seq self.old.leases ≡ record { leases = self.new.leases; effects = result ∷ [] } }
+        ensures next { self.new.next ≤ place + 1 }
+        ensures room { self.old.room ≤ self.new.room + 2 }
+    {
+        let machine = rule.machine;
+        if let Some(count) = self.limit_reached(machine) {
+            self.note(machine, boot, seq, Outcome::AtLimit { count });
+            return Effect::AtLimit {
+                machine,
+                boot,
+                seq,
+                count,
+            };
+        }
+        let Some(range) = self.least_free(rule.vip) else {
+            self.note(machine, boot, seq, Outcome::Exhausted { place });
+            return Effect::Exhausted {
+                machine,
+                boot,
+                seq,
+                place,
+            };
+        };
+        let row = Row {
+            n: place,
+            range,
+            machine,
+            agent: rule.agent,
+            boot,
+            seq,
+            phase: Phase::BeingLeased,
+        };
+        self.take(row);
+        self.note(machine, boot, seq, Outcome::Reserved { range, n: place });
+        Effect::Reserved { row }
+    }
+}
