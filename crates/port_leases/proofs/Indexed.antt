@@ -2,7 +2,7 @@
 use Rattle.std.proofs.Common.{◌≡◌, ◌≢◌, ℕ, zero, suc, ◌+◌, ◌-◌, ◌<◌, ◌≤◌, ◌==◌, Bool, true, false, not, ◌||◌, cond, List, [], ◌∷◌, ◌++◌, map, filter, find, length, count_by, Option, Some, None, is_some, unwrap_or, option_map, nat_lt, nat_le, if◌then◌else◌, refl, ap, sym, ◌∙◌, subst, arith, true≢false, ◌⊎◌, inl, inr, ⊎_elim}
 use Rattle.std.specs.List.{list_any}
 use Rattle.std.proofs.lemmas.List.Sums.{sum_by-cons, sum_by_push}
-use Rattle.std.proofs.lemmas.Bool.{eq-eqb}
+use Rattle.std.proofs.lemmas.Bool.{eq-eqb, eqb-true}
 use Rattle.std.proofs.lemmas.Bool.Decides.{nat_tests}
 use Rattle.std.proofs.lemmas.Grind.{common_steps}
 use Rattle.wire_core.specs.declared.address.Ip4.{Ip4}
@@ -294,3 +294,12 @@ indexed-same rows rows2 numbers numbers2 counts counts2 h is number count = reco
   single = λ r. subst (λ (xs : List Row). count_by (λ row. same_range row.range r) xs ≤ 1) (sym is) (h.single r);
   counts = λ m. ap (λ o. unwrap_or o 0) (count m) ∙ h.counts m ∙ sym (ap (λ xs. row_count xs m) is);
 }
+
+-- the row that is found by a number has it
+pub number_found : (rows : List Row) (n : ℕ) (row : Row) → row_at rows n ≡ Some row → row.n ≡ n
+number_found [] n row is = absurd (cc)
+number_found (x ∷ rows) n row is = by (x.n == n) refl (number_found rows n row)
+  where
+    by : (b : Bool) → (x.n == n) ≡ b → (row_at rows n ≡ Some row → row.n ≡ n) → row.n ≡ n
+    by true e more = let here = rw e at is in let same : x ≡ row = cc in ap (λ y. y.n) (sym same) ∙ eqb-true x.n n e
+    by false e more = more (rw e at is)

@@ -1,5 +1,5 @@
 ghost use Rattle.std.specs.Prelude.{◌≡◌, ◌<◌, ◌≤◌, ◌+◌, length};
-ghost use Rattle.lease_spec.specs.Table.{at_phase, command, decide, free, grant, next, raise_known, release, reserve, row_at, rule_of, up};
+ghost use Rattle.lease_spec.specs.Table.{at_phase, command as command_done, decide, free, grant, next, raise_known, release, reserve, row_at, rule_of, up};
 ghost use Rattle.port_leases.specs.Effects.{Adds};
 ghost use Rattle.port_leases.specs.Store.{Does};
 ghost use Rattle.wire_core.specs.Views.{command_of};
@@ -122,9 +122,9 @@ fn reserve(store: &mut Store, place: u64, agent: u16, boot: u64, machine: Ip4, s
 pub fn apply_command(store: &mut Store, place: u64, command: Command<'_>, effects: &mut Effects)
     requires room { 2 < store.old.room }
     requires next { store.old.next ≤ place }
-    requires effects { length (command store.old.rules place (command_of command.entry) store.old.leases).effects ≤ effects.old.room }
-    ensures does { Does store.old store.new (command store.old.rules place (command_of command.entry) store.old.leases) }
-    ensures effects { Adds effects.old effects.new (command store.old.rules place (command_of command.entry) store.old.leases).effects }
+    requires effects { length (command_done store.old.rules place (command_of command) store.old.leases).effects ≤ effects.old.room }
+    ensures does { Does store.old store.new (command_done store.old.rules place (command_of command.entry) store.old.leases) }
+    ensures effects { Adds effects.old effects.new (command_done store.old.rules place (command_of command.entry) store.old.leases).effects }
     ensures next { store.new.next ≤ place + 1 }
 {
     match command {
