@@ -196,3 +196,14 @@ counted_by b bs ok =
 pub counted_at : (bytes : List ℕ) → IsOk (value_at bytes) → Counted bytes (get_or bytes 0 0) (take (length bytes - 1) (drop 1 bytes))
 counted_at [] ok = absurd (let n = value_some [] ok in omega arith)
 counted_at (b ∷ bs) ok = rw (take_rest (b ∷ bs) 1) (counted_by b bs ok)
+
+-- a value has 1 to 16 commands
+pub value_few : (bytes : List ℕ) → AreBytes bytes → IsOk (value_at bytes) → (0 < length (commands_in bytes)) × (length (commands_in bytes) ≤ 16)
+value_few bytes h ok = by (value_at bytes) refl ok
+  where
+    by : (r : Read (List LogCommand)) → value_at bytes ≡ r → IsOk r → (0 < length (commands_in bytes)) × (length (commands_in bytes) ≤ 16)
+    by (Ok x) e is =
+        let value = (value_is bytes x h e).value in
+        let here : commands_in bytes ≡ x.0 = ap commands_of e in
+        subst (λ (cs : List LogCommand). (0 < length cs) × (length cs ≤ 16)) (sym here) (value.some, value.few)
+    by (Err fault) e is = absurd cc

@@ -1,4 +1,4 @@
-ghost use Rattle.std.specs.Prelude.{◌≡◌, ◌<◌, [], length, slice_get, Ok, Some, IsOk};
+ghost use Rattle.std.specs.Prelude.{◌≡◌, ◌<◌, ◌≤◌, [], length, slice_get, Ok, Some, IsOk};
 ghost use Rattle.wire_core.specs.Commands.{Freed, Release, value_bytes};
 ghost use Rattle.wire_core.specs.Reading.{Gives, command_at, commands_at, commands_in, commands_of, fault_at, granted_at, lease_at, mux_boot_at, mux_boots_at, read_value, reserve_at, rest_of, up_at, value_at};
 ghost use Rattle.wire_core.specs.Views.{command_of, pairs_of};
@@ -174,6 +174,7 @@ impl<'a> Model for Value<'a> {
 fn split_count(bytes: &[u8]) -> (u8, &[u8])
     requires { IsOk (value_at bytes.now) }
     ensures count { result.0 ≡ length (commands_in bytes.now) }
+    ensures few { (0 < length (commands_in bytes.now)) × (length (commands_in bytes.now) ≤ 16) }
     ensures read { commands_of (commands_at result.0 result.1.now) ≡ commands_in bytes.now }
     ensures ok { IsOk (commands_at result.0 result.1.now) }
 {
@@ -248,7 +249,8 @@ impl<'a> Value<'a> {
 
     /// The number of commands, from 1 to 16.
     pub fn len(&self) -> usize
-        ensures { result ≡ length self.now }
+        ensures len { result ≡ length self.now }
+        ensures few { (0 < result) × (result ≤ 16) }
     {
         usize::from(split_count(self.bytes).0)
     }
