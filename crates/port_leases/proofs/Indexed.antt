@@ -27,6 +27,10 @@ module _ (p : Row → Bool) where
   none_found [] h = refl
   none_found (row ∷ rows) h = grind (arith, none_found rows, h)
 
+  pub found_any : (rows : List Row) → is_some (number_of (find p rows)) ≡ list_any p rows
+  found_any [] = refl
+  found_any (row ∷ rows) = grind (arith, found_any rows)
+
   pub none_counted : (rows : List Row) → not (list_any p rows) ≡ true → count_by p rows ≡ 0
   none_counted [] h = refl
   none_counted (row ∷ rows) h = let step = count-cons row rows in grind (arith, step, none_counted rows, h)

@@ -5,3 +5,4 @@ pub mod Indexed
 pub mod Blocks
 pub mod RequestLists
 pub mod Stored
+pub mod Folds

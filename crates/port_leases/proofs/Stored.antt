@@ -1,7 +1,10 @@
 -- Machines and free starts, after each edit of the rows.
-use Rattle.std.proofs.Common.{◌≡◌, ◌≢◌, ℕ, zero, suc, ◌+◌, ◌-◌, ◌*◌, ◌/◌, ◌%◌, ◌<◌, ◌≤◌, ◌==◌, Bool, true, false, not, ◌&&◌, ◌||◌, cond, List, [], ◌∷◌, ◌++◌, map, length, get_or, set, Option, Some, None, is_some, option_map, if◌then◌else◌, refl, ap, sym, ◌∙◌, subst, arith, true≢false}
+use Rattle.std.proofs.Common.{◌≡◌, ◌≢◌, ℕ, zero, suc, ◌+◌, ◌-◌, ◌*◌, ◌/◌, ◌%◌, ◌<◌, ◌≤◌, ◌==◌, Bool, true, false, not, ◌&&◌, ◌||◌, cond, find, List, [], ◌∷◌, ◌++◌, map, length, take, get_or, set, Option, Some, None, is_some, option_map, if◌then◌else◌, refl, ap, sym, ◌∙◌, subst, arith, true≢false}
 use Rattle.std.specs.List.{list_any}
-use Rattle.std.proofs.lemmas.List.{length-set, get_or-set_same, get_or-set_other}
+use Rattle.std.specs.Option.{option_or}
+use Rattle.std.proofs.lemmas.List.Folds.{find-append, list_any-append}
+use Rattle.lease_spec.specs.Table.{rule_of}
+use Rattle.std.proofs.lemmas.List.{take_more, length-set, get_or-set_same, get_or-set_other}
 use Rattle.std.proofs.Math.Bool.{and-false, and-true, or-false, or-true}
 use Rattle.std.proofs.lemmas.Bool.{eqb-true, eq-eqb}
 use Rattle.std.proofs.lemmas.Bool.Decides.{nat_tests}
@@ -198,3 +201,63 @@ stored-stay rules rows rows2 x rule free h none gone =
         (λ hit. let here : is_leasable rules r ≡ false = subst (λ (y : Range). is_leasable rules y ≡ false) (range_is x r hit) none in rw here refl)
         (λ miss. ap (λ b. is_leasable rules r && b) (gone r ∙ ap (λ b. b || has_no_row rows r) miss)))
       h
+
+-- ---- the rules grow
+
+or_none : {X : Type 0} (o : Option X) → option_or o None ≡ o
+or_none None = refl
+or_none (Some x) = refl
+
+more_machines : (rules : LeaseRules) (machines : List MachineRule) (rows : List Row) (vip : Ip4) (o : Option (List Bool)) → IsFreeOf rules rows vip o → IsFreeOf (record rules { machines = machines }) rows vip o
+more_machines rules machines rows vip None h = h
+more_machines rules machines rows vip (Some flags) h = record { named = h.named; count = h.count; each = h.each }
+
+pub stored-machine : (rules : LeaseRules) (rule : MachineRule) (machines : List MachineRule) (rows : List Row) (ruled ruled2 : Ip4 → Option MachineRule) (free : Ip4 → Option (List Bool))
+    → IsStored rules rows ruled free → rule_of rules rule.machine ≡ None → machines ≡ rules.machines ++ rule ∷ []
+    → ((m : Ip4) → ruled2 m ≡ (if same_address rule.machine m then Some rule else ruled m))
+    → IsStored (record rules { machines = machines }) rows ruled2 free
+stored-machine rules rule machines rows ruled ruled2 free h new is each = record {
+  machines = λ m.
+    let all = ap (find (λ r. r.machine.0 == m.0)) is ∙ find-append (λ r. r.machine.0 == m.0) rules.machines (rule ∷ []) in
+    by_test (same_address rule.machine m)
+      (λ hit.
+        let none = subst (λ (x : Ip4). rule_of rules x ≡ None) (address_is rule.machine m hit) new in
+        (rw hit at (each m)) ∙ sym (all ∙ ap (λ o. option_or o (cond (rule.machine.0 == m.0) (Some rule) None)) none ∙ ap (λ b. cond b (Some rule) None) hit))
+      (λ miss.
+        (rw miss at (each m)) ∙ h.machines m ∙ sym (all ∙ ap (λ b. option_or (rule_of rules m) (cond b (Some rule) None)) miss ∙ or_none (rule_of rules m)));
+  vips = λ vip. more_machines rules machines rows vip (free vip) (h.vips vip);
+}
+
+more_vips : (rules : LeaseRules) (rule : VipRule) (vips : List VipRule) (rows : List Row) (vip : Ip4) (o : Option (List Bool)) → vips ≡ rules.vips ++ rule ∷ []
+    → same_address rule.vip vip ≡ false → IsFreeOf rules rows vip o → IsFreeOf (record rules { vips = vips }) rows vip o
+more_vips rules rule vips rows vip None is other h =
+    ap (list_any (λ r. r.vip.0 == vip.0)) is ∙ list_any-append (λ r. r.vip.0 == vip.0) rules.vips (rule ∷ []) ∙ rw (h, other) refl
+more_vips rules rule vips rows vip (Some flags) is other h = record {
+  named = ap (list_any (λ r. r.vip.0 == vip.0)) is ∙ list_any-append (λ r. r.vip.0 == vip.0) rules.vips (rule ∷ []) ∙ rw (h.named) refl;
+  count = h.count;
+  each = λ k within.
+    let p = λ (r : VipRule). (r.vip.0 == vip.0) && allows r (8 * k) in
+    let last : list_any p (rule ∷ []) ≡ false = rw other refl in
+    let leasable : list_any p vips ≡ list_any p rules.vips = ap (list_any p) is ∙ list_any-append p rules.vips (rule ∷ []) ∙ ap (λ b. list_any p rules.vips || b) last ∙ or-false (list_any p rules.vips) in
+    h.each k within ∙ sym (ap (λ b. b && has_no_row rows (range_at vip (8 * k))) leasable);
+}
+
+pub stored-vip : (rules : LeaseRules) (rule : VipRule) (vips : List VipRule) (flags : List Bool) (rows : List Row) (ruled : Ip4 → Option MachineRule) (free free2 : Ip4 → Option (List Bool))
+    → IsStored rules rows ruled free → vips ≡ rules.vips ++ rule ∷ [] → AreFree (record rules { vips = vips }) rows rule.vip flags
+    → ((v : Ip4) → free2 v ≡ (if same_address rule.vip v then Some flags else free v))
+    → IsStored (record rules { vips = vips }) rows ruled free2
+stored-vip rules rule vips flags rows ruled free free2 h is new each = record {
+  machines = h.machines;
+  vips = λ vip. by_test (same_address rule.vip vip)
+    (λ hit. let now = rw hit at (each vip) in rw now (subst (λ (v : Ip4). AreFree (record rules { vips = vips }) rows v flags) (address_is rule.vip vip hit) new))
+    (λ miss. let now = rw miss at (each vip) in rw now (more_vips rules rule vips rows vip (free vip) is miss (h.vips vip)));
+}
+
+-- the rules that are indexed so far, and one more
+pub found_more : (rules : List MachineRule) (i : ℕ) (d : MachineRule) (m : Ip4) (was now : Option MachineRule) → i < length rules
+    → now ≡ option_or was (if same_address (get_or rules i d).machine m then Some (get_or rules i d) else None)
+    → was ≡ find (λ r. r.machine.0 == m.0) (take i rules)
+    → now ≡ find (λ r. r.machine.0 == m.0) (take (i + 1) rules)
+found_more rules i d m was now within is so_far =
+    is ∙ ap (λ o. option_or o (if same_address (get_or rules i d).machine m then Some (get_or rules i d) else None)) so_far
+      ∙ sym (ap (find (λ r. r.machine.0 == m.0)) (take_more rules i d within) ∙ find-append (λ r. r.machine.0 == m.0) (take i rules) (get_or rules i d ∷ []))

@@ -1,12 +1,15 @@
 -- The table's parts as one value.
-use Rattle.std.specs.Prelude.{◌≡◌, ℕ, ◌+◌, ◌*◌, ◌<◌, ◌≤◌, ◌==◌, Bool, true, false, List, map, length, get_or, Option, Some, None}
+use Rattle.std.specs.Prelude.{◌≡◌, ℕ, ◌+◌, ◌*◌, ◌<◌, ◌≤◌, ◌==◌, Bool, true, false, nat_lt, List, map, length, get_or, Option, Some, None}
+use Rattle.std.specs.List.{list_any}
 use Rattle.wire_core.specs.declared.address.Ip4.{Ip4}
 use Rattle.wire_core.specs.declared.rules.LeaseRules.{LeaseRules}
 use Rattle.wire_core.specs.declared.rules.MachineRule.{MachineRule}
+use Rattle.wire_core.specs.declared.rules.VipRule.{VipRule}
 use Rattle.wire_core.specs.Ranges.{range_at}
 use Rattle.lease_spec.specs.declared.row.Row.{Row}
 use Rattle.lease_spec.specs.Free.{is_free}
-use Rattle.lease_spec.specs.Table.{Done, Known, Last, Leases, rule_of}
+use Rattle.lease_spec.specs.Table.{Done, Known, Last, Leases, known_boot, rule_of}
+use Rattle.wire_core.specs.Commands.{LogCommand, Reserve, Granted, Release, Freed, Up}
 use Rattle.port_leases.specs.declared.requests.Request.{Request}
 use Rattle.port_leases.specs.Requests.{last_with}
 use Rattle.port_leases.specs.Starts.{first_flag}
@@ -58,3 +61,16 @@ pub record Does (old new : StoreState) (done : Done) : Type 0 where
   pub rules : new.rules ≡ old.rules
   pub leases : new.leases ≡ done.leases
   pub room : old.room ≤ new.room + 3
+
+-- the free starts of a VIP, where one of these rules names it
+abbrev pub IsMadeOf : LeaseRules → List Row → List VipRule → Ip4 → Option (List Bool) → Type 0
+IsMadeOf rules rows vips vip None = list_any (λ rule. rule.vip.0 == vip.0) vips ≡ false
+IsMadeOf rules rows vips vip (Some flags) = AreFree rules rows vip flags
+
+-- the command has a boot above the agent's known one
+abbrev pub may_raise : List Known → LogCommand → Bool
+may_raise known (Reserve agent boot machine seq) = nat_lt (known_boot known agent) boot
+may_raise known (Granted n muxes) = false
+may_raise known (Release n) = false
+may_raise known (Freed n) = false
+may_raise known (Up agent boot) = nat_lt (known_boot known agent) boot

@@ -1,13 +1,15 @@
-ghost use Rattle.std.specs.Prelude.{◌≡◌, ◌<◌, ◌≤◌, ◌+◌, length};
-ghost use Rattle.lease_spec.specs.Table.{at_phase, command as command_done, decide, free, grant, next, raise_known, release, reserve, row_at, rule_of, up};
+ghost use Rattle.std.specs.Prelude.{ℕ, ◌≡◌, ◌<◌, ◌≤◌, ◌+◌, ◌*◌, ◌++◌, length};
+ghost use Rattle.std.specs.List.{list_any};
+ghost use Rattle.lease_spec.specs.Table.{apply, at_phase, command as command_done, decide, free, grant, next, raise_known, release, reserve, row_at, rule_of, up};
 ghost use Rattle.port_leases.specs.Effects.{Adds};
-ghost use Rattle.port_leases.specs.Store.{Does};
+ghost use Rattle.lease_spec.specs.Places.{placed};
+ghost use Rattle.port_leases.specs.Store.{Does, may_raise};
 ghost use Rattle.wire_core.specs.Views.{command_of};
 
 use crate::effects::Effects;
 use crate::store::Store;
 use lease_spec::{Effect, Phase, Row};
-use wire_core::{Command, Ip4, MachineRule};
+use wire_core::{Command, Ip4, MachineRule, Value};
 
 /// The row, in another phase.
 fn at_phase(row: Row, phase: Phase) -> Row
@@ -138,5 +140,56 @@ pub fn apply_command(store: &mut Store, place: u64, command: Command<'_>, effect
         Command::Release { n } => release(store, n, effects),
         Command::Freed { n } => free(store, n, effects),
         Command::Up { agent, boot } => up(store, agent, boot, effects),
+    }
+}
+
+/// Whether the command raises an agent's known boot.
+fn raises(store: &Store, command: Command<'_>) -> bool
+    ensures { result ≡ may_raise store.now.leases.known (command_of command.entry) }
+{
+    match command {
+        Command::Reserve { agent, boot, .. } | Command::Up { agent, boot } => {
+            store.known_boot(agent) < boot
+        }
+        Command::Granted { .. } | Command::Release { .. } | Command::Freed { .. } => false,
+    }
+}
+
+/// Whether a command of the value raises an agent's known boot.
+fn some_raises(store: &Store, value: &Value) -> bool
+    ensures { result ≡ list_any (may_raise store.now.leases.known) value.now }
+{
+    for i in 0..value.len() {
+        if raises(store, value.command(i)) {
+            return true;
+        }
+    }
+    false
+}
+
+/// At least as many effects as the value's commands have: two a command, and where a boot rises, a row that it ends.
+pub fn effects_room(store: &Store, place: u64, value: &Value) -> usize
+    requires { store.now.next ≤ place }
+    ensures { length (apply store.now.rules (placed place value.now) store.now.leases).effects ≤ result }
+{
+    if some_raises(store, value) {
+        store.len() + 2 * value.len()
+    } else {
+        2 * value.len()
+    }
+}
+
+/// The commands of a value, from this place on.
+pub fn apply_value(store: &mut Store, place: u64, value: &Value, effects: &mut Effects)
+    requires room { 3 * length value.now ≤ store.old.room }
+    requires next { store.old.next ≤ place }
+    requires effects { length (apply store.old.rules (placed place value.now) store.old.leases).effects ≤ effects.old.room }
+    ensures rules { store.new.rules ≡ store.old.rules }
+    ensures leases { store.new.leases ≡ (apply store.old.rules (placed place value.now) store.old.leases).leases }
+    ensures next { store.new.next ≤ place + length value.now }
+    ensures effects { effects.new.effects ≡ effects.old.effects ++ (apply store.old.rules (placed place value.now) store.old.leases).effects }
+{
+    for i in 0..value.len() {
+        apply_command(store, place + i as u64, value.command(i), effects);
     }
 }

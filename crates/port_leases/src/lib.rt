@@ -8,5 +8,7 @@ mod requests;
 mod rows;
 mod starts;
 mod store;
+mod table;
 
 pub use lease_spec::{Effect, EffectList, Outcome, Phase, Row};
+pub use table::Table;

@@ -135,6 +135,13 @@ impl Rows {
         }
     }
 
+    /// Whether a row is on this range.
+    pub fn has_row(&self, r: Range) -> bool
+        ensures { not result ≡ has_no_row self.now.rows r }
+    {
+        self.numbers.contains_key(&r)
+    }
+
     /// How many rows the machine has, in any phase.
     pub fn count(&self, machine: Ip4) -> u32
         ensures { result ≡ row_count self.now.rows machine }

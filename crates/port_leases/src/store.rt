@@ -1,10 +1,11 @@
-ghost use Rattle.std.specs.Prelude.{◌≡◌, ◌<◌, ◌≤◌, ◌+◌, ◌*◌, ◌/◌, ◌^◌, ◌-◌, ◌++◌, ◌∷◌, [], true, false, not, ◌==◌, filter, nat_le, length, slice_set, Some, None, option_map, if◌then◌else◌, IfSome, IfNone, OnOk, OnErr, IfOk};
+ghost use Rattle.std.specs.Prelude.{◌≡◌, ◌<◌, ◌≤◌, ◌+◌, ◌*◌, ◌/◌, ◌^◌, ◌-◌, ◌++◌, ◌∷◌, [], true, false, not, ◌==◌, filter, find, is_ok, nat_le, length, slice_set, Some, None, option_map, IsSomeAnd, if◌then◌else◌, IfSome, IfNone, OnOk, OnErr, IfOk};
+ghost use Rattle.std.specs.Option.{option_or};
 ghost use Rattle.indexmap.specs.IndexMap.{get};
 ghost use Rattle.lease_spec.specs.Free.{is_free, least_free};
-ghost use Rattle.lease_spec.specs.Table.{decide, is_later, known_boot, last_of, move, noted, raise_known, row_at, row_count, rule_of};
+ghost use Rattle.lease_spec.specs.Table.{decide, is_later, known_boot, last_of, move, no_leases, noted, raise_known, row_at, row_count, rule_of};
 ghost use Rattle.port_leases.specs.Effects.{Adds};
 ghost use Rattle.port_leases.specs.Rows.{same_address};
-ghost use Rattle.port_leases.specs.Store.{first_of};
+ghost use Rattle.port_leases.specs.Store.{AreFree, IsFreeOf, first_of};
 ghost use Rattle.port_leases.specs.TableState.{has_vip, row_above, row_on};
 ghost use Rattle.port_leases.specs.Requests.{last_with};
 ghost use Rattle.wire_core.specs.declared.address.Ip4 as ip;
@@ -76,7 +77,127 @@ fn rule_of(machines: &IndexMap<Ip4, MachineRule>, machine: Ip4) -> Option<Machin
     machines.get(&machine).copied()
 }
 
+/// A machine's rule, where the machine has none yet.
+fn put_rule(machines: &mut IndexMap<Ip4, MachineRule>, rule: MachineRule) -> Result<(), NoMemory>
+    ensures { OnOk result ((m : ip.Ip4) → get same_address machines.new m ≡ option_or (get same_address machines.old m) (if same_address rule.machine m then Some rule else None)) }
+{
+    if machines.contains_key(&rule.machine) {
+        return Ok(());
+    }
+    machines.insert(rule.machine, rule)?;
+    Ok(())
+}
+
+/// The machines by their addresses.
+fn index_machines(alloc: Global, rules: &[MachineRule]) -> Result<IndexMap<Ip4, MachineRule>, NoMemory>
+    ensures { IfOk result (λ machines. (m : ip.Ip4) → get same_address machines m ≡ find (λ rule. rule.machine.0 == m.0) rules.now) }
+{
+    let mut machines = IndexMap::new(alloc);
+    for rule in rules {
+        put_rule(&mut machines, *rule)?;
+    }
+    Ok(machines)
+}
+
+/// Whether the range may be leased and has no row.
+fn is_free(rules: &LeaseRules, rows: &Rows, r: Range) -> bool
+    ensures { result ≡ is_free rules.now rows.now.rows r }
+{
+    rules.leasable(&r) && !rows.has_row(r)
+}
+
+/// The free starts of a VIP.
+fn fill(starts: &mut Starts, rules: &LeaseRules, rows: &Rows, vip: Ip4)
+    requires count { length starts.old ≡ 8192 }
+    requires named { has_vip rules.now vip ≡ true }
+    ensures { AreFree rules.now rows.now.rows vip starts.new }
+{
+    for i in 0..8192u16 {
+        let free = is_free(
+            rules,
+            rows,
+            Range { vip, start: 8 * i },
+        );
+        starts.set(usize::from(i), free);
+    }
+}
+
+/// A VIP's free starts, where the VIP has none yet.
+fn put_starts(alloc: Global, vips: &mut IndexMap<Ip4, Starts>, rules: &LeaseRules, rows: &Rows, vip: Ip4) -> Result<(), NoMemory>
+    requires named { has_vip rules.now vip ≡ true }
+    requires free { IfSome (get same_address vips.old vip) (AreFree rules.now rows.now.rows vip) }
+    ensures here { OnOk result (IsSomeAnd (get same_address vips.new vip) (AreFree rules.now rows.now.rows vip)) }
+    ensures others { OnOk result ((v : ip.Ip4) → same_address vip v ≡ false → get same_address vips.new v ≡ get same_address vips.old v) }
+{
+    if vips.contains_key(&vip) {
+        return Ok(());
+    }
+    let mut starts = Starts::new(alloc, 128)?;
+    fill(&mut starts, rules, rows, vip);
+    vips.insert(vip, starts)?;
+    Ok(())
+}
+
+/// The free starts of each VIP.
+fn index_vips(alloc: Global, rules: &LeaseRules, rows: &Rows) -> Result<IndexMap<Ip4, Starts>, NoMemory>
+    ensures { IfOk result (λ vips. (v : ip.Ip4) → IsFreeOf rules.now rows.now.rows v (get same_address vips v)) }
+{
+    let mut vips = IndexMap::new(alloc);
+    for rule in rules.vips.as_slice() {
+        put_starts(alloc, &mut vips, rules, rows, rule.vip)?;
+    }
+    Ok(vips)
+}
+
 impl Store {
+    /// No leases.
+    pub fn new(alloc: Global, rules: LeaseRules) -> Result<Store, NoMemory>
+        ensures rules { IfOk result (λ store. store.rules ≡ rules) }
+        ensures leases { IfOk result (λ store. store.leases ≡ no_leases) }
+        ensures next { IfOk result (λ store. store.next ≡ 0) }
+    {
+        let rows = Rows::new(alloc);
+        let machines = index_machines(alloc, rules.machines.as_slice())?;
+        let vips = index_vips(alloc, &rules, &rows)?;
+        Ok(Store {
+            rules,
+            machines,
+            vips,
+            rows,
+            known: IndexMap::new(alloc),
+            lasts: IndexMap::new(alloc),
+        })
+    }
+
+    /// One more VIP.
+    pub fn add_vip(&mut self, alloc: Global, rule: VipRule) -> Result<(), NoMemory>
+        requires { has_vip self.old.rules rule.vip ≡ false }
+        ensures rules { self.new.rules ≡ (if is_ok result then record self.old.rules { vips = self.old.rules.vips ++ rule ∷ [] } else self.old.rules) }
+        ensures leases { self.new.leases ≡ self.old.leases }
+        ensures next { self.new.next ≡ self.old.next }
+    {
+        let vip = rule.vip;
+        let mut starts = Starts::new(alloc, 128)?;
+        self.vips.reserve(1)?;
+        self.rules.vips.push(rule)?;
+        fill(&mut starts, &self.rules, &self.rows, vip);
+        self.vips.insert(vip, starts).unwrap();
+        Ok(())
+    }
+
+    /// One more machine.
+    pub fn add_machine(&mut self, rule: MachineRule) -> Result<(), NoMemory>
+        requires { rule_of self.old.rules rule.machine ≡ None }
+        ensures rules { self.new.rules ≡ (if is_ok result then record self.old.rules { machines = self.old.rules.machines ++ rule ∷ [] } else self.old.rules) }
+        ensures leases { self.new.leases ≡ self.old.leases }
+        ensures next { self.new.next ≡ self.old.next }
+    {
+        self.machines.reserve(1)?;
+        self.rules.machines.push(rule)?;
+        self.machines.insert(rule.machine, rule).unwrap();
+        Ok(())
+    }
+
     /// The row with this number.
     pub fn row_at(&self, n: u64) -> Option<Row>
         ensures { result ≡ row_at self.now.leases.rows n }
