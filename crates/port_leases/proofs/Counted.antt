@@ -6,7 +6,7 @@ use Rattle.lease_spec.specs.declared.row.Row.{Row}
 use Rattle.lease_spec.specs.declared.row.Phase.{Phase}
 use Rattle.lease_spec.specs.Table.{at_phase, cleared, move, row_at}
 use Rattle.port_leases.specs.declared.entries.Entry.{Entry}
-use Rattle.port_leases.specs.Entries.{AllAbove, Ascend, IsCounted, RowsAbove, RowsAscend, at_number, dead, live_rows, next_number, with_row}
+use Rattle.port_leases.specs.Entries.{AllAbove, Ascend, InOrder, IsCounted, RowsAbove, RowsAscend, RowsBelow, at_number, dead, live_rows, next_number, with_row}
 use Rattle.port_leases.proofs.LiveRows.{live_rows-bury, live_rows-filter, live_rows-move, live_rows-push, live_rows-with}
 
 -- ---- the rows of ascending entries ascend
@@ -160,3 +160,18 @@ counted-compact es live h = record {
   ascend = ascend_filter es h.ascend;
   count = h.count ∙ sym (ap length (live_rows-filter es));
 }
+
+-- ---- the rows are in order
+
+below_weaken : (m n : ℕ) (rows : List Row) → m ≤ n → RowsBelow m rows → RowsBelow n rows
+below_weaken m n [] le h = tt
+below_weaken m n (row ∷ rows) le h = (let p : row.n < m = h.0 in omega arith, below_weaken m n rows le h.1)
+
+rows_below : (es : List Entry) → RowsBelow (next_number es) (live_rows es)
+rows_below [] = tt
+rows_below (e ∷ es) =
+    let rest : RowsBelow (next_number (e ∷ es)) (live_rows es) = below_weaken (next_number es) (next_number (e ∷ es)) (live_rows es) (omega arith) (rows_below es) in
+    elim e.live as (λ (b : Bool). RowsBelow (next_number (e ∷ es)) (if b then e.row ∷ live_rows es else live_rows es)) [ true ↦ (omega arith, rest) | false ↦ rest ]
+
+pub rows_in_order : (es : List Entry) → Ascend es → InOrder (live_rows es) (next_number es)
+rows_in_order es h = record { ascend = rows_ascend es h; below = rows_below es }

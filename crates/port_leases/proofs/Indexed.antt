@@ -184,7 +184,7 @@ range_is a b h =
 pub address_is : (a b : Ip4) → same_address a b ≡ true → a ≡ b
 address_is a b h = let same : a.0 ≡ b.0 = grind (arith, nat_tests, h) in λ i. record { 0 = same i }
 
-one_at : (b : Bool) → b ≡ true → ◌≡◌ {A = ℕ} (cond b 1 0) 1
+pub one_at : (b : Bool) → b ≡ true → ◌≡◌ {A = ℕ} (cond b 1 0) 1
 one_at b h = rw h refl
 
 none_at : (b : Bool) → b ≡ false → ◌≡◌ {A = ℕ} (cond b 1 0) 0

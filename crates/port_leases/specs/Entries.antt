@@ -66,6 +66,15 @@ abbrev pub RowsAscend : List Row → Type 0
 RowsAscend [] = Unit {0}
 RowsAscend (row ∷ rows) = RowsAbove row.n rows × RowsAscend rows
 
+abbrev pub RowsBelow : ℕ → List Row → Type 0
+RowsBelow next [] = Unit {0}
+RowsBelow next (row ∷ rows) = (row.n < next) × RowsBelow next rows
+
+-- numbers ascend, and each is below the next one
+pub record InOrder (rows : List Row) (next : ℕ) : Type 0 where
+  pub ascend : RowsAscend rows
+  pub below : RowsBelow next rows
+
 -- What callers see of rows that are found by number: the rows, the least number that a new row may have, and how many
 -- more rows fit without memory.
 pub record Numbered : Type 0 where

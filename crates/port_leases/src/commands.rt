@@ -1,4 +1,4 @@
-ghost use Rattle.std.specs.Prelude.{ℕ, ◌≡◌, ◌<◌, ◌≤◌, ◌+◌, ◌*◌, ◌++◌, length};
+ghost use Rattle.std.specs.Prelude.{ℕ, ◌≡◌, ◌<◌, ◌≤◌, ◌+◌, ◌*◌, ◌^◌, ◌++◌, length};
 ghost use Rattle.std.specs.List.{list_any};
 ghost use Rattle.lease_spec.specs.Table.{apply, at_phase, command as command_done, decide, free, grant, next, raise_known, release, reserve, row_at, rule_of, up};
 ghost use Rattle.port_leases.specs.Effects.{Adds};
@@ -182,6 +182,7 @@ pub fn effects_room(store: &Store, place: u64, value: &Value) -> usize
 /// The commands of a value, from this place on.
 pub fn apply_value(store: &mut Store, place: u64, value: &Value, effects: &mut Effects)
     requires room { 3 * length value.now ≤ store.old.room }
+    requires small { place < 2 ^ 63 }
     requires next { store.old.next ≤ place }
     requires effects { length (apply store.old.rules (placed place value.now) store.old.leases).effects ≤ effects.old.room }
     ensures rules { store.new.rules ≡ store.old.rules }

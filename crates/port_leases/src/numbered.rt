@@ -1,6 +1,6 @@
-ghost use Rattle.std.specs.Prelude.{◌≡◌, ◌<◌, ◌≤◌, ◌+◌, ◌++◌, ◌∷◌, [], not, ◌==◌, map, filter, length, IsSome, OnOk};
+ghost use Rattle.std.specs.Prelude.{◌≡◌, ◌<◌, ◌≤◌, ◌+◌, ◌^◌, ◌++◌, ◌∷◌, [], not, ◌==◌, map, filter, length, IsSome, OnOk};
 ghost use Rattle.lease_spec.specs.Table.{cleared, move, row_at};
-ghost use Rattle.port_leases.specs.Entries.{RowsAscend};
+ghost use Rattle.port_leases.specs.Entries.{InOrder, RowsAscend};
 ghost use Rattle.port_leases.specs.Effects.{Adds, boot_effects};
 ghost use Rattle.port_leases.specs.TableState.{row_above};
 
@@ -46,7 +46,9 @@ impl NumberedRows {
 
     /// The number of rows.
     pub fn len(&self) -> usize
-        ensures { result ≡ length self.now.rows }
+        ensures len { result ≡ length self.now.rows }
+        ensures small { result < 2 ^ 63 }
+        ensures order { InOrder self.now.rows self.now.next }
     {
         self.live
     }

@@ -3,6 +3,7 @@ ghost use Rattle.indexmap.specs.IndexMap.{get, spare};
 ghost use Rattle.lease_spec.specs.Free.{has_no_row, same_range};
 ghost use Rattle.lease_spec.specs.Table.{cleared, move, row_at, row_count};
 ghost use Rattle.port_leases.specs.Effects.{Adds, boot_effects};
+ghost use Rattle.port_leases.specs.Entries.{InOrder};
 ghost use Rattle.port_leases.specs.Rows.{same_address};
 ghost use Rattle.port_leases.specs.TableState.{row_above, row_on};
 
@@ -106,7 +107,9 @@ impl Rows {
 
     /// The number of rows.
     pub fn len(&self) -> usize
-        ensures { result ≡ length self.now.rows }
+        ensures len { result ≡ length self.now.rows }
+        ensures small { result < 2 ^ 63 }
+        ensures order { InOrder self.now.rows self.now.next }
     {
         self.rows.len()
     }

@@ -4,6 +4,7 @@ ghost use Rattle.indexmap.specs.IndexMap.{get};
 ghost use Rattle.lease_spec.specs.Free.{is_free, least_free};
 ghost use Rattle.lease_spec.specs.Table.{decide, is_later, known_boot, last_of, move, no_leases, noted, raise_known, row_at, row_count, rule_of};
 ghost use Rattle.port_leases.specs.Effects.{Adds};
+ghost use Rattle.port_leases.specs.Entries.{InOrder};
 ghost use Rattle.port_leases.specs.Rows.{same_address};
 ghost use Rattle.port_leases.specs.Store.{AreFree, IsFreeOf, first_of};
 ghost use Rattle.port_leases.specs.TableState.{has_vip, row_above, row_on};
@@ -256,7 +257,9 @@ impl Store {
 
     /// The number of rows.
     pub fn len(&self) -> usize
-        ensures { result ≡ length self.now.leases.rows }
+        ensures len { result ≡ length self.now.leases.rows }
+        ensures small { result < 2 ^ 63 }
+        ensures order { InOrder self.now.leases.rows self.now.next }
     {
         self.rows.len()
     }
