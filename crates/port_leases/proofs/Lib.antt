@@ -1,6 +1,7 @@
 pub mod Places
 pub mod LiveRows
 pub mod Counted
+pub mod MachineRows
 pub mod Indexed
 pub mod Blocks
 pub mod RequestLists

@@ -1,5 +1,5 @@
 -- What callers see of a lease table, and what a slot does to it.
-use Rattle.std.specs.Prelude.{ℕ, ◌+◌, Bool, nat_lt, ◌==◌, List, Option, Some, None, find}
+use Rattle.std.specs.Prelude.{ℕ, ◌+◌, Bool, nat_lt, ◌==◌, ◌&&◌, List, [], ◌∷◌, Option, Some, None, filter, find}
 use Rattle.std.specs.List.{list_any}
 use Rattle.wire_core.specs.declared.address.Ip4.{Ip4}
 use Rattle.wire_core.specs.declared.range.Range.{Range}
@@ -37,6 +37,15 @@ row_on rows r = find (λ row. same_range row.range r) rows
 -- the first row with a number above this one; rows stand by number
 abbrev pub row_above : List Row → ℕ → Option Row
 row_above rows n = find (λ row. nat_lt n row.n) rows
+
+-- the machine's rows with numbers above this one, by number
+abbrev pub rows_of : List Row → Ip4 → ℕ → List Row
+rows_of rows machine above = filter (λ row. nat_lt above row.n && (row.machine.0 == machine.0)) rows
+
+-- a row of the machine and those that follow it
+abbrev pub onward : List Row → Ip4 → Option Row → List Row
+onward rows machine None = []
+onward rows machine (Some row) = row ∷ rows_of rows machine row.n
 
 abbrev pub outcome_of : Option Last → Option Outcome
 outcome_of None = None

@@ -1,9 +1,10 @@
-ghost use Rattle.std.specs.Prelude.{◌≡◌, ◌≤◌, ◌+◌, find, filter, map, vec_len, vec_capacity, if◌then◌else◌};
+ghost use Rattle.std.specs.Prelude.{◌≡◌, ◌≤◌, ◌+◌, ◌==◌, ◌&&◌, nat_lt, find, filter, map, vec_len, vec_capacity, if◌then◌else◌};
 ghost use Rattle.lease_spec.specs.Table.{at_phase, cleared, is_stale, row_at};
 ghost use Rattle.port_leases.specs.Entries.{Ascend, IsPlace, SplitsAt, at_number, dead, live_rows, row_of, with_row};
 ghost use Rattle.port_leases.specs.TableState.{row_above};
 
 use lease_spec::{Phase, Row};
+use wire_core::Ip4;
 
 /// A row, and whether it still stands. A row that left keeps its number, so that the numbers stay in order.
 #[derive(Clone, Copy, Debug, PartialEq, Eq)]
@@ -120,6 +121,23 @@ pub fn row_above(entries: &[Entry], n: u64) -> Option<Row>
     let i = split_after(entries, n);
     let (_, after) = entries.split_at(i);
     row_of(first_live(after))
+}
+
+/// The first live entry of the machine.
+fn first_live_of(entries: &[Entry], machine: Ip4) -> Option<Entry>
+    ensures { result ≡ find (λ e. e.live && (e.row.machine.0 == machine.0)) entries.now }
+{
+    entries.iter().copied().find(|e| e.live && e.row.machine == machine)
+}
+
+/// The machine's row with the least number above this one. Costs a walk over the rows between them.
+pub fn next_row_of(entries: &[Entry], machine: Ip4, above: u64) -> Option<Row>
+    requires { Ascend entries.now }
+    ensures { result ≡ find (λ row. nat_lt above row.n && (row.machine.0 == machine.0)) (live_rows entries.now) }
+{
+    let i = split_after(entries, above);
+    let (_, after) = entries.split_at(i);
+    row_of(first_live_of(after, machine))
 }
 
 /// The row with this number goes to a phase.

@@ -2,14 +2,14 @@ ghost use Rattle.std.specs.Prelude.{◌≡◌, ◌<◌, ◌≤◌, ◌+◌, ◌^
 ghost use Rattle.lease_spec.specs.Table.{cleared, move, row_at};
 ghost use Rattle.port_leases.specs.Entries.{InOrder, RowsAscend};
 ghost use Rattle.port_leases.specs.Effects.{Adds, boot_effects};
-ghost use Rattle.port_leases.specs.TableState.{row_above};
+ghost use Rattle.port_leases.specs.TableState.{onward, row_above, rows_of};
 
 use crate::effects::{Effects, tell_cleared};
 use crate::entries::{self, Entry};
 use lease_spec::{Phase, Row};
 use std::alloc::Global;
 use std::marker::Model;
-use wire_core::NoMemory;
+use wire_core::{Ip4, NoMemory};
 
 /// Rows that are found by number. A row that left keeps its place until half of the places are without a row.
 #[derive(Debug, Drop)]
@@ -66,6 +66,13 @@ impl NumberedRows {
         ensures { result ≡ row_above self.now.rows n }
     {
         entries::row_above(&self.entries, n)
+    }
+
+    /// The machine's row with the least number above this one, if any. Costs a walk over the rows between them.
+    pub fn next_row_of(&self, machine: Ip4, above: u64) -> Option<Row>
+        ensures { rows_of self.now.rows machine above ≡ onward self.now.rows machine result }
+    {
+        entries::next_row_of(&self.entries, machine, above)
     }
 
     /// Makes room for so many more rows.

@@ -5,7 +5,7 @@ ghost use Rattle.lease_spec.specs.Table.{cleared, move, row_at, row_count};
 ghost use Rattle.port_leases.specs.Effects.{Adds, boot_effects};
 ghost use Rattle.port_leases.specs.Entries.{InOrder};
 ghost use Rattle.port_leases.specs.Rows.{same_address};
-ghost use Rattle.port_leases.specs.TableState.{row_above, row_on};
+ghost use Rattle.port_leases.specs.TableState.{onward, row_above, row_on, rows_of};
 
 use crate::effects::Effects;
 use crate::numbered::NumberedRows;
@@ -126,6 +126,16 @@ impl Rows {
         ensures { result ≡ row_above self.now.rows n }
     {
         self.rows.row_above(n)
+    }
+
+    /// The machine's row with the least number above this one, if any. Costs a walk over the rows between them.
+    pub fn next_row_of(&self, machine: Ip4, above: u64) -> Option<Row>
+        ensures { rows_of self.now.rows machine above ≡ onward self.now.rows machine result }
+    {
+        if self.count(machine) == 0 {
+            return None;
+        }
+        self.rows.next_row_of(machine, above)
     }
 
     /// The row on this range.

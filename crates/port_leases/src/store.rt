@@ -7,7 +7,7 @@ ghost use Rattle.port_leases.specs.Effects.{Adds};
 ghost use Rattle.port_leases.specs.Entries.{InOrder};
 ghost use Rattle.port_leases.specs.Rows.{same_address};
 ghost use Rattle.port_leases.specs.Store.{AreFree, IsFreeOf, first_of};
-ghost use Rattle.port_leases.specs.TableState.{has_vip, row_above, row_on};
+ghost use Rattle.port_leases.specs.TableState.{has_vip, onward, row_above, row_on, rows_of};
 ghost use Rattle.port_leases.specs.Requests.{last_with};
 ghost use Rattle.wire_core.specs.declared.address.Ip4 as ip;
 
@@ -211,6 +211,13 @@ impl Store {
         ensures { result ≡ row_above self.now.leases.rows n }
     {
         self.rows.row_above(n)
+    }
+
+    /// The machine's row with the least number above this one, if any. Costs a walk over the rows between them.
+    pub fn next_row_of(&self, machine: Ip4, above: u64) -> Option<Row>
+        ensures { rows_of self.now.leases.rows machine above ≡ onward self.now.leases.rows machine result }
+    {
+        self.rows.next_row_of(machine, above)
     }
 
     /// The row on this range.
