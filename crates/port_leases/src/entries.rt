@@ -127,7 +127,10 @@ pub fn row_above(entries: &[Entry], n: u64) -> Option<Row>
 fn first_live_of(entries: &[Entry], machine: Ip4) -> Option<Entry>
     ensures { result ≡ find (λ e. e.live && (e.row.machine.0 == machine.0)) entries.now }
 {
-    entries.iter().copied().find(|e| e.live && e.row.machine == machine)
+    entries
+        .iter()
+        .copied()
+        .find(|e| e.live && e.row.machine == machine)
 }
 
 /// The machine's row with the least number above this one. Costs a walk over the rows between them.

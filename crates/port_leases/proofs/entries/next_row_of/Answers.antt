@@ -8,4 +8,4 @@ pub returns : goal.returns
 returns c =
     let of_machine = λ (e : Entry). e.live && (e.row.machine.0 == c.args.machine.0) in
     c.row_of.ensures ∙ ap row_of (c.first_live_of.ensures ∙ ap (find of_machine) c.split_at.ensures.back)
-      ∙ sym (next_of-split c.args.machine c.args.above c.args.entries.now c.split_after-i.result c.split_after-i.ensures)
+    ∙ sym (next_of-split c.args.machine c.args.above c.args.entries.now c.split_after-i.result c.split_after-i.ensures)
