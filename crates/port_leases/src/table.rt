@@ -1,6 +1,6 @@
 ghost use Rattle.std.specs.Prelude.{◌≡◌, ◌<◌, ◌^◌, ◌++◌, ◌∷◌, [], false, IfOk, OnOk, OnErr, IsNone};
 ghost use Rattle.lease_spec.specs.Table.{known_boot, last_of, row_at, rule_of};
-ghost use Rattle.port_leases.specs.TableState.{apply_slot, fresh, has_vip, outcome_of, pair_of, row_above, row_on};
+ghost use Rattle.port_leases.specs.TableState.{apply_slot, fresh, has_vip, onward, outcome_of, pair_of, row_above, row_on, rows_of};
 
 use crate::commands::{apply_value, effects_room};
 use crate::effects::Effects;
@@ -104,6 +104,14 @@ impl Table {
         ensures { result ≡ row_above self.now.leases.rows above }
     {
         self.store.row_above(above)
+    }
+
+    /// The machine's row with the least number above this one. `None` exactly where it has none. Costs a walk over the
+    /// rows between them.
+    pub fn next_row_of(&self, machine: Ip4, above: u64) -> Option<Row>
+        ensures { rows_of self.now.leases.rows machine above ≡ onward self.now.leases.rows machine result }
+    {
+        self.store.next_row_of(machine, above)
     }
 
     /// What the machine's last request with an effect came to. `None` exactly where it made none.
