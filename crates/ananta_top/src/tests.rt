@@ -1,0 +1,192 @@
+// Whole runs over objects in memory.
+ghost use Rattle.std.specs.Prelude.{None};
+
+use crate::{Status, run};
+use outside_io::{Failed, MemClock, MemSink, MemSource, NoHost, Source};
+use std::alloc::{AllocError, Global};
+use std::test::Fail;
+
+/// The worked schedule, without its packets.
+const LEASES: &[u8] =
+    b"plain\nvip 192.0.2.10 1024 1039\nask 192.0.2.10 10.1.0.4\nask 192.0.2.10 10.1.0.5\nask 192.0.2.10 10.1.0.6\nreturn 17\nreturn 17\nask 192.0.2.10 10.1.0.6\n";
+
+const LEASED: &[u8] =
+    b"leased 1 1024\nleased 17 1032\nexhausted 33\nfreed 17\nunknown 17\nleased 65 1032\n";
+
+/// How a run ended, and what stands on its two sinks.
+#[derive(Drop)]
+struct Ran {
+    status: Status,
+    out: MemSink,
+    err: MemSink,
+}
+
+/// Runs over any source, with a sink that takes at most 16 bytes a call.
+fn run_over<S: Source>(
+    alloc: Global,
+    word: &str,
+    input: &mut S,
+    write_fails: &[u64],
+) -> Result<Ran, AllocError> {
+    let mut words = Vec::new(alloc);
+    words.push(String::from_str(alloc, word)?)?;
+    let mut out = MemSink::new(Vec::new(alloc), 16, write_fails.to_vec(alloc)?);
+    let mut err = MemSink::new(Vec::new(alloc), 16, Vec::new(alloc));
+    let mut host = NoHost::new();
+    let mut clock = MemClock::new(Vec::new(alloc));
+    let status = run(
+        alloc, &words, input, &mut out, &mut err, &mut host, &mut clock,
+    );
+    Ok(Ran { status, out, err })
+}
+
+fn replay(alloc: Global, text: &[u8]) -> Result<Ran, AllocError> {
+    let mut input = MemSource::new(text.to_vec(alloc)?, Vec::new(alloc));
+    run_over(alloc, "replay", &mut input, &[])
+}
+
+/// A source that gives so many bytes, all of them `x`.
+#[derive(Debug, Drop)]
+struct LongSource {
+    left: usize,
+}
+
+impl Source for LongSource {
+    ghost left = { λ _. None };
+
+    ghost faults = { λ _. 0 };
+
+    fn read(&mut self, buf: &mut [u8]) -> Result<usize, Failed> {
+        let count = buf.len().min(self.left);
+        for byte in buf.iter_mut() {
+            *byte = b'x';
+        }
+        self.left -= count;
+        Ok(count)
+    }
+}
+
+#[test]
+fn the_worked_schedule(rt: HostRuntime) -> Result<(), Fail> {
+    let ran = replay(rt.alloc(), LEASES)?;
+    assert_eq!(rt; ran.status, Status::Done);
+    assert_eq!(rt; ran.out.bytes(), LEASED);
+    assert_eq!(rt; ran.err.bytes().len(), 0);
+    Ok(())
+}
+
+#[test]
+fn words_of_no_form(rt: HostRuntime) -> Result<(), Fail> {
+    let alloc = rt.alloc();
+    for word in ["", "Replay", "replay ", "--help", "check"] {
+        let mut input = MemSource::new(LEASES.to_vec(alloc)?, Vec::new(alloc));
+        let ran = run_over(alloc, word, &mut input, &[])?;
+        assert_eq!(rt; ran.status, Status::Usage, "{word:?}");
+        assert_eq!(rt; ran.err.bytes(), b"usage\n".as_slice());
+    }
+    Ok(())
+}
+
+#[test]
+fn ranges_at_the_edges(rt: HostRuntime) -> Result<(), Fail> {
+    let last =
+        b"plain\nvip 192.0.2.10 65528 65535\nask 192.0.2.10 10.1.0.4\nask 192.0.2.10 10.1.0.4\n";
+    let ran = replay(rt.alloc(), last)?;
+    assert_eq!(rt; ran.status, Status::Done);
+    assert_eq!(rt;
+        ran.out.bytes(),
+        b"leased 1 65528\nexhausted 17\n".as_slice()
+    );
+    let ran = replay(rt.alloc(), b"plain\nvip 192.0.2.10 1016 1023")?;
+    assert_eq!(rt; ran.status, Status::BadSchedule);
+    assert_eq!(rt; ran.err.bytes(), b"schedule line 2\n".as_slice());
+    Ok(())
+}
+
+#[test]
+fn bad_lines(rt: HostRuntime) -> Result<(), Fail> {
+    for (text, wanted) in [
+        ("", "schedule line 1\n"),
+        ("plain \n", "schedule line 1\n"),
+        ("plain\n\nvip 1.2.3.4 1025 1031", "schedule line 3\n"),
+        ("plain\nask 1.2.3.4 1.2.3.5", "schedule line 2\n"),
+        (
+            "plain\nvip 1.2.3.4 1024 1031\nvip 1.2.3.4 1024 1031",
+            "schedule line 3\n",
+        ),
+        (
+            "plain\nvip 1.2.3.4 1024 1031\nask 1.2.3.4 1.2.3.4",
+            "schedule line 3\n",
+        ),
+        (
+            "plain\nvip 1.2.3.4 1024 1031\nvip 1.2.3.5 1024 1031\nask 1.2.3.4 1.2.3.6\nask 1.2.3.5 1.2.3.6",
+            "schedule line 5\n",
+        ),
+        ("plain\nreturn 01", "schedule line 2\n"),
+        ("plain\nseize 1", "schedule line 2\n"),
+    ] {
+        let ran = replay(rt.alloc(), text.as_bytes())?;
+        assert_eq!(rt; ran.status, Status::BadSchedule, "{text:?}");
+        assert_eq!(rt; ran.err.bytes(), wanted.as_bytes(), "{text:?}");
+        assert_eq!(rt; ran.out.bytes().len(), 0);
+    }
+    Ok(())
+}
+
+#[test]
+fn as_many_vips_as_allowed(rt: HostRuntime) -> Result<(), Fail> {
+    let alloc = rt.alloc();
+    let mut text = String::from_str(alloc, "plain\n")?;
+    for number in 0..64 {
+        writeln!(text, "vip 192.0.2.{number} 1024 1031")?;
+    }
+    assert_eq!(rt; replay(alloc, text.as_bytes())?.status, Status::Done);
+    writeln!(text, "vip 192.0.2.64 1024 1031")?;
+    let ran = replay(alloc, text.as_bytes())?;
+    assert_eq!(rt; ran.status, Status::BadSchedule);
+    assert_eq!(rt; ran.err.bytes(), b"schedule line 66\n".as_slice());
+    Ok(())
+}
+
+#[test]
+fn as_many_lines_as_allowed(rt: HostRuntime) -> Result<(), Fail> {
+    let alloc = rt.alloc();
+    let mut text = b"plain\n".to_vec(alloc)?;
+    for _ in 1..100_000 {
+        text.push(b'\n')?;
+    }
+    assert_eq!(rt; replay(alloc, &text)?.status, Status::Done);
+    text.extend_from_slice(b"# one more")?;
+    let ran = replay(alloc, &text)?;
+    assert_eq!(rt; ran.status, Status::BadSchedule);
+    assert_eq!(rt; ran.err.bytes(), b"schedule line 100001\n".as_slice());
+    Ok(())
+}
+
+#[test]
+fn as_many_bytes_as_allowed(rt: HostRuntime) -> Result<(), Fail> {
+    let alloc = rt.alloc();
+    let mut input = LongSource { left: 67_108_864 };
+    let ran = run_over(alloc, "replay", &mut input, &[])?;
+    assert_eq!(rt; ran.status, Status::BadSchedule);
+    let mut input = LongSource { left: 67_108_865 };
+    let ran = run_over(alloc, "replay", &mut input, &[])?;
+    assert_eq!(rt; ran.status, Status::TooLong);
+    assert_eq!(rt; ran.err.bytes(), b"input too long\n".as_slice());
+    Ok(())
+}
+
+#[test]
+fn faults_of_the_streams(rt: HostRuntime) -> Result<(), Fail> {
+    let alloc = rt.alloc();
+    let mut input = MemSource::new(LEASES.to_vec(alloc)?, [0].to_vec(alloc)?);
+    let ran = run_over(alloc, "replay", &mut input, &[])?;
+    assert_eq!(rt; ran.status, Status::ReadFault);
+    assert_eq!(rt; ran.err.bytes(), b"read fault\n".as_slice());
+    let mut input = MemSource::new(LEASES.to_vec(alloc)?, Vec::new(alloc));
+    let ran = run_over(alloc, "replay", &mut input, &[1])?;
+    assert_eq!(rt; ran.status, Status::WriteFault);
+    assert_eq!(rt; ran.out.bytes(), &LEASED[..16]);
+    assert_eq!(rt; ran.err.bytes(), b"write fault\n".as_slice());
+    Ok(())
+}

@@ -1,0 +1,25 @@
+ghost use Rattle.std.specs.Prelude.{◌≡◌};
+ghost use Rattle.ananta_top.specs.Words.{job_of};
+
+/// What the program is asked to do.
+#[derive(Clone, Copy, Debug, PartialEq, Eq)]
+pub enum Job {
+    /// `replay`: the input is a schedule.
+    Replay,
+}
+
+/// The job that the words name. `None` exactly where they are of no form.
+pub fn job_of(words: &[String]) -> Option<Job>
+    ensures { result ≡ job_of words.now }
+{
+    match words {
+        [word] => {
+            if word.as_str() == "replay" {
+                Some(Job::Replay)
+            } else {
+                None
+            }
+        }
+        _ => None,
+    }
+}

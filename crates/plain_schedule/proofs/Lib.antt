@@ -1,0 +1,4 @@
+pub mod FreePorts
+pub mod Keys
+pub mod LineByLine
+pub mod LinesAndEffects

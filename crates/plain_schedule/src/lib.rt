@@ -1,0 +1,28 @@
+//! Plain schedules: one lease table without nodes, driven by lines of text.
+//!
+//! The first line is `plain`. Empty lines and lines that begin with `#` are skipped.
+//!
+//! | line | what it does | what it prints |
+//! |---|---|---|
+//! | `vip ADDRESS LOW HIGH` | the ports of a new VIP may be leased from now on | nothing |
+//! | `ask VIP MACHINE` | one slot of the log: the machine asks for a range | `leased N START` or `exhausted PLACE` |
+//! | `return N` | one slot: lease N is released and freed | `freed N`, or `unknown N` where there is none |
+//!
+//! [`plain_lines`] reads the whole text and answers all that it prints, or its first bad line. What a text prints is the
+//! definition `plain_lines` of `specs/Schedule.antt`: a fold of the lines over the lease table.
+#![tactic(auto)]
+
+mod cause;
+mod choice;
+mod connections;
+mod line;
+mod packets;
+mod replay;
+mod state;
+
+pub use connections::{Connection, Connections};
+pub use line::Line;
+pub use replay::{PlainFault, plain_lines};
+
+#[cfg(test)]
+mod tests;
