@@ -19,3 +19,6 @@ pub use buffer::Buf;
 pub use packet_spec::IpFault;
 pub use unwrapping::{Inner, UnwrapFault, unwrap};
 pub use wrapping::{WrapFault, wrap, wrap_local};
+
+#[cfg(test)]
+mod tests;

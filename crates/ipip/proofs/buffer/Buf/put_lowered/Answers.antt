@@ -5,7 +5,6 @@ use Rattle.ipip.specs.Wrapping.{lowered}
 use Rattle.ipip.proofs.BufferLaws.{behind, lowered_behind}
 use Rattle.ipip.proofs.buffer.Buf.put_lowered.Goals as goal
 
-
 pub lower_inner-requires-clause-header : goal.lower_inner-requires-clause-header
 lower_inner-requires-clause-header c =
     let packet = behind c.as_mut_slice.result.now c.args.outer.now c.args.packet.now (c.as_mut_slice.ensures.value ∙ c.fill.ensures.bytes) c.told-outer in
