@@ -1,9 +1,10 @@
 -- An IPv4 packet within an IPv4 packet (RFC 2003).
-use Rattle.std.specs.Prelude.{◌≡◌, ℕ, zero, suc, ◌+◌, ◌-◌, Bool, true, List, ◌++◌, length, nat_lt, nat_le, ◌==◌, Option, Some, None, Result, Ok, Err, if◌then◌else◌}
+use Rattle.std.specs.Prelude.{◌≡◌, ℕ, zero, suc, ◌+◌, ◌-◌, ◌^◌, ◌<◌, true, List, ◌++◌, nat_lt, nat_le, ◌==◌, Option, Some, None, Result, Ok, Err, if◌then◌else◌}
 use Rattle.wire_core.specs.declared.address.Ip4.{Ip4}
 use Rattle.packet_spec.specs.declared.fault.IpFault.{IpFault}
 use Rattle.packet_spec.specs.declared.header.Ip4Header.{Ip4Header}
-use Rattle.packet_spec.specs.Headers.{tos_of, ttl_of, total_length, protocol_of, source_of, destination_of, payload_of, header_bytes, read_ip}
+use Rattle.wire_core.specs.Numbers.{AreBytes}
+use Rattle.packet_spec.specs.Headers.{IsWhole, tos_of, ttl_of, total_length, protocol_of, source_of, destination_of, payload_of, header_bytes, read_ip}
 use Rattle.packet_spec.specs.Edits.{layout_of, put_ttl, put_header_sum}
 use Rattle.ipip.specs.declared.wrapping.WrapFault.{WrapFault}
 use Rattle.ipip.specs.declared.wrapping.WrapFault.TheVariants.{TooLong, TtlOut}
@@ -61,3 +62,9 @@ unwrapped bytes = of_outer (read_ip bytes)
 -- what the code's answer means
 abbrev pub inner_of : Inner → Unwrapped
 inner_of i = record { outer_src = i.outer_src; outer_dst = i.outer_dst; bytes = i.bytes.now }
+
+-- What is wrapped is unwrapped again: both outer addresses, and the packet with its time to live lowered.
+abbrev pub UnwrapsAgain : Type 0
+UnwrapsAgain =
+    (d : ℕ) (src dst : Ip4) (p : List ℕ) → src.0 < 2 ^ 32 → dst.0 < 2 ^ 32 → AreBytes p → IsWhole p → wrap_fault d p ≡ None
+    → unwrapped (wrapped d src dst p) ≡ Ok (record { outer_src = src; outer_dst = dst; bytes = lowered d p })

@@ -12,10 +12,12 @@
 #![tactic(auto)]
 
 mod buffer;
+mod laws;
 mod unwrapping;
 mod wrapping;
 
 pub use buffer::Buf;
+pub use laws::unwraps_again;
 pub use packet_spec::IpFault;
 pub use unwrapping::{Inner, UnwrapFault, unwrap};
 pub use wrapping::{WrapFault, wrap, wrap_local};

@@ -1,7 +1,6 @@
-use Rattle.std.proofs.Common.{◌≡◌, ◌∙◌, ◌≤◌, ◌++◌, drop, length, List, ℕ, sym, ap, subst}
+use Rattle.std.proofs.Common.{◌∙◌, ◌≤◌, length, List, ℕ, sym, subst}
 use Rattle.std.proofs.lemmas.List.{take_at}
 use Rattle.packet_spec.specs.Headers.{header_length, ttl_of}
-use Rattle.ipip.specs.Wrapping.{lowered}
 use Rattle.ipip.proofs.BufferLaws.{behind, lowered_behind}
 use Rattle.ipip.proofs.buffer.Buf.put_lowered.Goals as goal
 
