@@ -66,5 +66,6 @@ inner_of i = record { outer_src = i.outer_src; outer_dst = i.outer_dst; bytes = 
 -- What is wrapped is unwrapped again: both outer addresses, and the packet with its time to live lowered.
 abbrev pub UnwrapsAgain : Type 0
 UnwrapsAgain =
-    (d : ℕ) (src dst : Ip4) (p : List ℕ) → src.0 < 2 ^ 32 → dst.0 < 2 ^ 32 → AreBytes p → IsWhole p → wrap_fault d p ≡ None
+    (d : ℕ) (src dst : Ip4) (p : List ℕ) → src.0 < 2 ^ 32 → dst.0 < 2 ^ 32 → AreBytes p → IsWhole p
+    → wrap_fault d p ≡ None
     → unwrapped (wrapped d src dst p) ≡ Ok (record { outer_src = src; outer_dst = dst; bytes = lowered d p })

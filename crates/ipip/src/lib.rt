@@ -5,8 +5,8 @@
 //! | outer header, 20 bytes | inner header | inner payload |
 //! ```
 //!
-//! The outer header has the inner type of service, protocol 4, identification 0, 'don't fragment', a time to live of 64
-//! and its checksum. [`wrap`] forwards a packet, so it lowers the inner time to live by one (section 3.1);
+//! The outer header has the inner type of service, protocol 4, identification 0, 'don't fragment', a time to live of
+//! 64 and its checksum. [`wrap`] forwards a packet, so it lowers the inner time to live by one (section 3.1);
 //! [`wrap_local`] sends a packet of this host, whose time to live stays. [`unwrap`] lends what a packet carries. What an
 //! inner packet holds, and which addresses are right, is left to the caller.
 #![tactic(auto)]

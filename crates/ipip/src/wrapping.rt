@@ -21,7 +21,8 @@ pub enum WrapFault {
 /// What forbids it to wrap the packet and lower its time to live by so many hops.
 #[tactic(auto, unfolding(crate::specs::Wrapping::wrap_fault))]
 fn may_wrap(inner: &Ip4View, hops: u8) -> Result<(), WrapFault>
-    ensures cause { MatchResult result (λ _. wrap_fault hops inner.now ≡ None) (λ fault. wrap_fault hops inner.now ≡ Some fault) }
+    ensures cause { MatchResult result (λ _. wrap_fault hops inner.now ≡ None)
+        (λ fault. wrap_fault hops inner.now ≡ Some fault) }
     ensures few { OnOk result (length inner.now ≤ 65000) }
     ensures hops { OnOk result (hops + 1 ≤ ttl_of inner.now) }
 {
@@ -59,7 +60,8 @@ fn outer_of(outer_src: Ip4, outer_dst: Ip4, inner: &Ip4View) -> [u8; 20]
 /// it was.
 #[tactic(auto, unfolding(crate::specs::Wrapping::wrapped))]
 pub fn wrap(outer_src: Ip4, outer_dst: Ip4, inner: &Ip4View, out: &mut Buf) -> Result<(), WrapFault>
-    ensures cause { MatchResult result (λ _. wrap_fault 1 inner.now ≡ None) (λ fault. wrap_fault 1 inner.now ≡ Some fault) }
+    ensures cause { MatchResult result (λ _. wrap_fault 1 inner.now ≡ None)
+        (λ fault. wrap_fault 1 inner.now ≡ Some fault) }
     ensures ok { OnOk result (out.new ≡ wrapped 1 outer_src outer_dst inner.now) }
     ensures err { OnErr result (out.new ≡ out.old) }
 {
@@ -77,7 +79,8 @@ pub fn wrap_local(
     inner: &Ip4View,
     out: &mut Buf,
 ) -> Result<(), WrapFault>
-    ensures cause { MatchResult result (λ _. wrap_fault 0 inner.now ≡ None) (λ fault. wrap_fault 0 inner.now ≡ Some fault) }
+    ensures cause { MatchResult result (λ _. wrap_fault 0 inner.now ≡ None)
+        (λ fault. wrap_fault 0 inner.now ≡ Some fault) }
     ensures ok { OnOk result (out.new ≡ wrapped 0 outer_src outer_dst inner.now) }
     ensures err { OnErr result (out.new ≡ out.old) }
 {
