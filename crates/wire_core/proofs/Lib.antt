@@ -5,3 +5,4 @@ pub mod CommandLaws
 pub mod AgainLaws
 pub mod WalkLaws
 pub mod EntryLaws
+pub mod OwnedLaws

@@ -7,3 +7,4 @@ pub mod Reading
 pub mod Views
 pub mod Entries
 pub mod Spelling
+pub mod Same

@@ -269,3 +269,18 @@ impl<'a> Value<'a> {
         spelling(self.bytes)
     }
 }
+
+/// The value that these bytes spell.
+pub(crate) fn value_of_spelling(bytes: &[u8]) -> Value<'_>
+    requires { value_at bytes.now ≡ Ok (commands_in bytes.now, []) }
+    ensures { result ≡ commands_in bytes.now }
+{
+    Value { bytes }
+}
+
+/// The bytes that spell the value.
+pub(crate) fn spelling_of<'a>(value: &Value<'a>) -> &'a [u8]
+    ensures { value_at result.now ≡ Ok (value.now, []) }
+{
+    value.bytes
+}

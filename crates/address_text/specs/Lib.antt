@@ -1,0 +1,4 @@
+pub mod Fields
+pub mod Numbers
+pub mod Addresses
+pub mod Laws

@@ -1,0 +1,3 @@
+pub mod Back
+pub mod Laid
+pub mod Pick

@@ -1,0 +1,4 @@
+pub mod States
+pub mod Picked
+pub mod Overlays
+pub mod Fuses

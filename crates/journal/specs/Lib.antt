@@ -1,0 +1,5 @@
+pub mod Durable
+pub mod File
+pub mod Records
+pub mod Reading
+pub mod Journal
