@@ -60,7 +60,8 @@ message_bytes (Lead ballot length) = spelled 21 (number ballot ++ number length)
 message_bytes (RedirectAsk src sport dst dport machine) =
     spelled 22 (address src ++ port sport ++ address dst ++ port dport ++ address machine)
 message_bytes (Redirect side n src sport dst dport opener server) =
-    spelled 23 (byte side ++ number n ++ address src ++ port sport ++ address dst ++ port dport ++ address opener ++ address server)
+    spelled 23 (byte side ++ number n ++ address src ++ port sport ++ address dst ++ port dport
+    ++ address opener ++ address server)
 
 -- ---- which messages there are
 
@@ -120,4 +121,5 @@ IsMessage (Lead ballot length) = IsNumber ballot × IsNumber length
 IsMessage (RedirectAsk src sport dst dport machine) =
     IsAddress src × IsPort sport × IsAddress dst × IsPort dport × IsAddress machine
 IsMessage (Redirect side n src sport dst dport opener server) =
-    IsSide side × IsNumber n × IsAddress src × IsPort sport × IsAddress dst × IsPort dport × IsAddress opener × IsAddress server
+    IsSide side × IsNumber n × IsAddress src × IsPort sport × IsAddress dst × IsPort dport
+    × IsAddress opener × IsAddress server

@@ -1,5 +1,5 @@
 ghost use Rattle.std.specs.Prelude.{◌≡◌, ◌+◌, ◌*◌, ◌≤◌, ◌==◌, length};
-ghost use Rattle.packet_spec.specs.Headers.{read_ip, tos_of, ttl_of, has_df, protocol_of, source_of, destination_of, header_of, payload_of, header_length, total_length, is_header_sum_wrong, is_fragment};
+ghost use Rattle.packet_spec.specs.Headers.{read_ip, tos_of, ttl_of, has_df, protocol_of, source_of, destination_of, header_of, payload_of, header_length, total_length, is_header_sum_wrong, is_fragment, IsWhole};
 
 use inet_sum::ones_sum;
 use packet_spec::{IpFault, address_at, word_at};
@@ -134,9 +134,10 @@ impl<'a> Ip4View<'a> {
         &self.bytes[length..]
     }
 
-    /// Header and payload.
+    /// Header and payload: as many bytes as the total length says.
     pub fn whole(&self) -> &'a [u8]
-        ensures { result.now ≡ self.now }
+        ensures bytes { result.now ≡ self.now }
+        ensures whole { IsWhole self.now }
     {
         self.bytes
     }
