@@ -1,4 +1,4 @@
-//! Plain schedules: one lease table without nodes, driven by lines of text.
+//! Plain schedules: one lease table and its connections without nodes, driven by lines of text.
 //!
 //! The first line is `plain`. Empty lines and lines that begin with `#` are skipped.
 //!
@@ -6,10 +6,13 @@
 //! |---|---|---|
 //! | `vip ADDRESS LOW HIGH` | the ports of a new VIP may be leased from now on | nothing |
 //! | `ask VIP MACHINE` | one slot of the log: the machine asks for a range | `leased N START` or `exhausted PLACE` |
-//! | `return N` | one slot: lease N is released and freed | `freed N`, or `unknown N` where there is none |
+//! | `return N` | one slot: lease N is released and freed, its connections end | `freed N`, or `unknown N` where there is none |
+//! | `packet HEX` | a machine sends a packet, through its connection or a new one | `public HEX`, or `drop CAUSE` |
+//! | `reply HEX` | a remote end answers with a packet | `machine ADDRESS HEX`, or `drop CAUSE` |
 //!
 //! [`plain_lines`] reads the whole text and answers all that it prints, or its first bad line. What a text prints is the
-//! definition `plain_lines` of `specs/Schedule.antt`: a fold of the lines over the lease table.
+//! definition `plain_lines` of `specs/Schedule.antt`: a fold of the lines over the lease table and the
+//! connections that were opened. A connection stands while its lease does.
 #![tactic(auto)]
 
 mod cause;
