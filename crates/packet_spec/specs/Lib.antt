@@ -5,3 +5,4 @@ pub mod Segments
 pub mod Options
 pub mod Packets
 pub mod Edits
+pub mod Wrapping
