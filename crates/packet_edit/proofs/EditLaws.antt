@@ -1,5 +1,5 @@
 -- Each edit keeps what the parts of a packet are found by, and its bytes.
-use Rattle.std.proofs.Common.{◌≡◌, ℕ, zero, suc, ◌+◌, ◌-◌, ◌*◌, ◌/◌, ◌%◌, ◌<◌, ◌≤◌, ◌^◌, Bool, true, false, nat_lt, if◌then◌else◌, List, length, take, get_or, slice_set, Option, Some, None, IfSome, refl, sym, ap, ◌∙◌, arith, lit<}
+use Rattle.std.proofs.Common.{◌≡◌, ℕ, zero, suc, ◌+◌, ◌/◌, ◌%◌, ◌<◌, ◌≤◌, ◌^◌, Bool, true, false, nat_lt, if◌then◌else◌, List, take, Option, Some, None, refl, arith, lit<}
 use Rattle.wire_core.specs.declared.address.Ip4.{Ip4}
 use Rattle.wire_core.specs.declared.flow.Proto.{Proto}
 use Rattle.wire_core.specs.declared.flow.Proto.TheVariants.{Tcp, Udp}
@@ -11,7 +11,7 @@ use Rattle.packet_spec.specs.Sums.{checksum}
 use Rattle.packet_spec.specs.Options.{option_at, follow, mss_from, mss_at, data_offset}
 use Rattle.packet_spec.specs.Headers.{source_of, destination_of}
 use Rattle.packet_spec.specs.Segments.{sum_place, covered}
-use Rattle.packet_spec.specs.Edits.{put_source, put_destination, put_ttl, lower_word, placed, syn_mss, clamp, put_header_sum, put_segment_sum, segment_in, sent_sum, segment_sum, lacks_sum}
+use Rattle.packet_spec.specs.Edits.{put_source, put_destination, put_ttl, lower_word, placed, syn_mss, clamp, put_header_sum, put_segment_sum, segment_in, sent_sum, lacks_sum}
 use Rattle.packet_edit.proofs.SumLaws.{IsBytes, bytes_set, bytes_put}
 use Rattle.packet_edit.proofs.KeptLaws.{Keeps, keeps_set, keeps_put, free_in_header, free_behind, free_ttl, free_sum}
 
@@ -43,7 +43,6 @@ edited_destination l ip port p q long a b e = edited_put l.start p (put_address 
 pub edited_ttl : (start ttl : ℕ) (p q : List ℕ) → 20 ≤ start → ttl < 256 → Edited start p q → Edited start p (put_ttl ttl q)
 unfolding put_ttl
 edited_ttl start ttl p q long a e = record { keeps = keeps_set start p q 8 ttl e.keeps (free_ttl start long); bytes = bytes_set q 8 ttl e.bytes a }
-
 
 -- what the walk over the options finds stands behind the place where it begins
 step_size : (s : List ℕ) (end at x : ℕ) → option_at s end at ≡ Size x → x ≡ at + 2

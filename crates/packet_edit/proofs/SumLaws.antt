@@ -1,5 +1,5 @@
 -- A checksum written in place of 0 makes the one's complement sum FFFF.
-use Rattle.std.proofs.Common.{◌≡◌, ℕ, zero, suc, ◌+◌, ◌-◌, ◌*◌, ◌/◌, ◌%◌, ◌<◌, ◌≤◌, Bool, List, [], ◌∷◌, ◌++◌, length, take, drop, get_or, slice_set, refl, sym, ap, ◌∙◌, subst, arith, lit<, ◌==◌, if◌then◌else◌}
+use Rattle.std.proofs.Common.{◌≡◌, ℕ, zero, suc, ◌+◌, ◌-◌, ◌*◌, ◌/◌, ◌%◌, ◌<◌, List, [], ◌∷◌, length, get_or, slice_set, ap, ◌∙◌, arith, lit<, ◌==◌, if◌then◌else◌}
 use Rattle.std.proofs.Math.Nat.{div-add-mod', mod-lt}
 use Rattle.packet_spec.specs.Words.{word_at, put_word}
 use Rattle.packet_spec.specs.Sums.{ones_sum, checksum}
@@ -7,7 +7,7 @@ use Rattle.packet_spec.specs.Edits.{sent_sum}
 use Rattle.wire_core.specs.declared.flow.Proto.{Proto}
 use Rattle.wire_core.specs.declared.flow.Proto.TheVariants.{Tcp, Udp}
 use Rattle.inet_sum.specs.Folds.{folded, word_sum}
-use Rattle.inet_sum.proofs.FoldLaws.{folded_zero, folded_suc, folded_above, folded_word, folded-pos, folded-lt, ones_sum_is_folded}
+use Rattle.inet_sum.proofs.FoldLaws.{folded_zero, folded_suc, folded_above, folded_word, folded-lt, ones_sum_is_folded}
 
 abbrev pub IsBytes : List ℕ → Type 0
 IsBytes xs = (i : ℕ) → get_or xs i 0 < 256

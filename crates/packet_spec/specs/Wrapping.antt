@@ -1,5 +1,5 @@
 -- An IPv4 packet inside another (RFC 2003).
-use Rattle.std.specs.Prelude.{ℕ, ◌+◌, ◌-◌, Bool, true, ◌==◌, nat_lt, nat_le, List, ◌++◌, length, Option, Some, None, Result, if◌then◌else◌}
+use Rattle.std.specs.Prelude.{ℕ, ◌+◌, ◌-◌, true, ◌==◌, nat_lt, nat_le, List, ◌++◌, length, Option, Some, None, Result, if◌then◌else◌}
 use Rattle.wire_core.specs.declared.address.Ip4.{Ip4}
 use Rattle.packet_spec.specs.declared.fault.IpFault.{IpFault}
 use Rattle.packet_spec.specs.declared.fault.WrapFault.{WrapFault}
@@ -7,7 +7,7 @@ use Rattle.packet_spec.specs.declared.fault.WrapFault.TheVariants.{TooLong, TtlO
 use Rattle.packet_spec.specs.declared.fault.UnwrapFault.{UnwrapFault}
 use Rattle.packet_spec.specs.declared.fault.UnwrapFault.TheVariants.{Ip, NotIpip}
 use Rattle.packet_spec.specs.declared.header.Ip4Header.{Ip4Header}
-use Rattle.packet_spec.specs.Headers.{ip_fault, header_length, total_length, tos_of, ttl_of, protocol_of, source_of, destination_of, payload_of, whole, header_bytes, unless_fault}
+use Rattle.packet_spec.specs.Headers.{ip_fault, header_length, total_length, tos_of, ttl_of, protocol_of, source_of, destination_of, payload_of, header_bytes, unless_fault}
 use Rattle.packet_spec.specs.Edits.{put_ttl, put_header_sum}
 
 -- the outer header: the inner type of service, identification 0, 'don't fragment', 64 hops, protocol 4
