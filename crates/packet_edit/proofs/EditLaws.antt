@@ -94,11 +94,11 @@ pub sent_sum-lt : (proto : Proto) (w : ℕ) → w < 65536 → sent_sum proto w <
 sent_sum-lt Tcp w h = h
 sent_sum-lt Udp w h = grind arith
 
-pub edited_header_sum : (start : ℕ) (p q : List ℕ) → 20 ≤ start → Edited start p q → Edited start p (put_header_sum start q)
+pub edited_header_sum : (l : Layout) (p q : List ℕ) → 20 ≤ l.start → Edited l.start p q → Edited l.start p (put_header_sum l q)
 unfolding put_header_sum
-edited_header_sum start p q long e =
-    let zero_put = edited_put start p q 10 0 long (omega arith) (omega arith) (lit< tt) e in
-    edited_put start p (put_word q 10 0) 10 _ long (omega arith) (omega arith) (checksum-lt (take start (put_word q 10 0))) zero_put
+edited_header_sum l p q long e =
+    let zero_put = edited_put l.start p q 10 0 long (omega arith) (omega arith) (lit< tt) e in
+    edited_put l.start p (put_word q 10 0) 10 _ long (omega arith) (omega arith) (checksum-lt (take l.start (put_word q 10 0))) zero_put
 
 -- the place of a segment's checksum is free
 pub edited_sum : (proto : Proto) (start : ℕ) (p q : List ℕ) (w : ℕ) → 20 ≤ start → w < 65536 → Edited start p q → Edited start p (put_word q (start + sum_place proto) w)

@@ -188,15 +188,15 @@ fine_after p q bytes fine e =
     let within = h.within in
     let total = h.total in
     let l : Layout = record { proto = carried p; start = header_length p; end = segment_end (carried p) p } in
-    let r : List ℕ = put_header_sum (header_length p) q in
-    let er = edited_header_sum (header_length p) p q long e in
-    let et = edited_segment_sum (record { proto = carried p; start = header_length p; end = segment_end (carried p) p }) p (put_header_sum (header_length p) q) long er in
-    let t : List ℕ = put_segment_sum (record { proto = carried p; start = header_length p; end = segment_end (carried p) p }) (put_header_sum (header_length p) q) in
+    let r : List ℕ = put_header_sum (record { proto = carried p; start = header_length p; end = segment_end (carried p) p }) q in
+    let er = edited_header_sum (record { proto = carried p; start = header_length p; end = segment_end (carried p) p }) p q long e in
+    let et = edited_segment_sum (record { proto = carried p; start = header_length p; end = segment_end (carried p) p }) p (put_header_sum (record { proto = carried p; start = header_length p; end = segment_end (carried p) p }) q) long er in
+    let t : List ℕ = put_segment_sum (record { proto = carried p; start = header_length p; end = segment_end (carried p) p }) (put_header_sum (record { proto = carried p; start = header_length p; end = segment_end (carried p) p }) q) in
     let length_q = e.keeps.same_length in
     let length_r = er.keeps.same_length in
     let fits = fits_for (carried p) p bytes h (segment_is_fine p fine) in
-    let lies : LiesWithin (record { proto = carried p; start = header_length p; end = segment_end (carried p) p }) (length (put_header_sum (header_length p) q)) = subst (λ (n : ℕ). LiesWithin (record { proto = carried p; start = header_length p; end = segment_end (carried p) p }) n) (sym length_r) fits in
-    let right = header_right (header_length p) q long (omega arith) e.bytes in
+    let lies : LiesWithin (record { proto = carried p; start = header_length p; end = segment_end (carried p) p }) (length (put_header_sum (record { proto = carried p; start = header_length p; end = segment_end (carried p) p }) q)) = subst (λ (n : ℕ). LiesWithin (record { proto = carried p; start = header_length p; end = segment_end (carried p) p }) n) (sym length_r) fits in
+    let right = header_right (record { proto = carried p; start = header_length p; end = segment_end (carried p) p }) q long (omega arith) e.bytes in
     let header_at = header_kept (header_length p) p t et.keeps in
     let sum : ones_sum (header_of t) ≡ 65535 = ap (λ (n : ℕ). ones_sum (take n t)) header_at ∙ ap ones_sum (header_stays l r) ∙ right in
     let fine_header = fine_is t (fine_kept (header_length p) p t et.keeps (is_fine p head) sum) in

@@ -60,22 +60,22 @@ drop_put n q at w =
     ∙ ap (λ (x : List ℕ). slice_set x (at + 1) (w % 256)) (drop-set-add n q at (w / 256))
 
 -- the header
-pub header_right : (start : ℕ) (q : List ℕ) → 20 ≤ start → start ≤ length q → IsBytes q → ones_sum (take start (put_header_sum start q)) ≡ 65535
+pub header_right : (l : Layout) (q : List ℕ) → 20 ≤ l.start → l.start ≤ length q → IsBytes q → ones_sum (take l.start (put_header_sum l q)) ≡ 65535
 unfolding put_header_sum
-header_right start q long within h =
+header_right l q long within h =
     let cleared : List ℕ = put_word q 10 0 in
-    let xs : List ℕ = take start (put_word q 10 0) in
+    let xs : List ℕ = take l.start (put_word q 10 0) in
     let len : length (put_word q 10 0) ≡ length q = length-put q 10 0 in
-    let size : length (take start (put_word q 10 0)) ≡ start = length-take start (put_word q 10 0) ∙ omega arith in
-    let bytes = bytes_take start (put_word q 10 0) (bytes_put q 10 0 h (lit< tt)) in
-    let ten : 10 + 1 < start = omega arith in
+    let size : length (take l.start (put_word q 10 0)) ≡ l.start = length-take l.start (put_word q 10 0) ∙ omega arith in
+    let bytes = bytes_take l.start (put_word q 10 0) (bytes_put q 10 0 h (lit< tt)) in
+    let ten : 10 + 1 < l.start = omega arith in
     let room : 10 + 1 < length q = omega arith in
     let whole_zero = zero_word q 10 room in
-    let a = get_or-take start (put_word q 10 0) 10 0 (omega arith) in
-    let b = get_or-take start (put_word q 10 0) (10 + 1) 0 ten in
-    let z : word_at (take start (put_word q 10 0)) 10 ≡ 0 = omega (arith, a, b, whole_zero) in
-    let fits : 10 + 1 < length (take start (put_word q 10 0)) = omega arith in
-    ap ones_sum (take_put start (put_word q 10 0) 10 (checksum (take start (put_word q 10 0))) ten) ∙ sum_right (take start (put_word q 10 0)) 10 refl fits bytes z
+    let a = get_or-take l.start (put_word q 10 0) 10 0 (omega arith) in
+    let b = get_or-take l.start (put_word q 10 0) (10 + 1) 0 ten in
+    let z : word_at (take l.start (put_word q 10 0)) 10 ≡ 0 = omega (arith, a, b, whole_zero) in
+    let fits : 10 + 1 < length (take l.start (put_word q 10 0)) = omega arith in
+    ap ones_sum (take_put l.start (put_word q 10 0) 10 (checksum (take l.start (put_word q 10 0))) ten) ∙ sum_right (take l.start (put_word q 10 0)) 10 refl fits bytes z
 
 -- the segment with a word of it set
 pub segment_put : (l : Layout) (r : List ℕ) (place w : ℕ) → place + 1 < l.end - l.start → segment_in l (put_word r (l.start + place) w) ≡ put_word (segment_in l r) place w

@@ -36,7 +36,7 @@ fn sent_sum(proto: Proto, sum: u16) -> u16
 #[tactic(auto, unfolding(packet_spec::specs::Edits::put_header_sum))]
 fn put_header_sum(p: &mut [u8], l: &Layout)
     requires { LiesWithin l.now (length p.old) }
-    ensures { p.new ≡ put_header_sum l.now.start p.old }
+    ensures { p.new ≡ put_header_sum l.now p.old }
 {
     put_word(p, HEADER_SUM, 0);
     let sum = checksum(&p[..l.start]);

@@ -62,9 +62,9 @@ clamp l p = lower_word (placed l.start (syn_mss l.proto (segment_in l p))) p
 abbrev pub put_checksum : ℕ → (List ℕ → ℕ) → List ℕ → List ℕ
 put_checksum at sum p = put_word (put_word p at 0) at (sum (put_word p at 0))
 
--- the checksum of a header of so many bytes computed (RFC 791, section 3.1)
-unfoldable pub put_header_sum : ℕ → List ℕ → List ℕ
-put_header_sum header p = put_checksum 10 (λ q. checksum (take header q)) p
+-- the header checksum computed (RFC 791, section 3.1)
+unfoldable pub put_header_sum : Layout → List ℕ → List ℕ
+put_header_sum l p = put_checksum 10 (λ q. checksum (take l.start q)) p
 
 -- a computed checksum as it is sent: UDP sends 0 as FFFF, for its 0 says that there is none (RFC 768)
 abbrev pub sent_sum : Proto → ℕ → ℕ
@@ -88,7 +88,7 @@ put_segment_sum l p =
 
 -- both checksums computed
 abbrev pub put_sums : Layout → List ℕ → List ℕ
-put_sums l p = put_segment_sum l (put_header_sum l.start p)
+put_sums l p = put_segment_sum l (put_header_sum l p)
 
 -- the three edits of a packet, with its checksums right
 unfoldable pub set_source : Ip4 → ℕ → List ℕ → List ℕ

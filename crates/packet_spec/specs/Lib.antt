@@ -5,4 +5,3 @@ pub mod Segments
 pub mod Options
 pub mod Packets
 pub mod Edits
-pub mod Wrapping

@@ -38,21 +38,3 @@ pub enum PacketFault {
     /// The TCP or UDP segment is faulty.
     Segment(SegmentFault),
 }
-
-/// Why a packet isn't put inside another (RFC 2003), in the order of the tests.
-#[derive(Clone, Copy, Debug, PartialEq, Eq)]
-pub enum WrapFault {
-    /// Its total length exceeds 65,000 bytes.
-    TooLong,
-    /// Its time to live would run out.
-    TtlOut,
-}
-
-/// Why nothing is taken out of a packet (RFC 2003), in the order of the tests.
-#[derive(Clone, Copy, Debug, PartialEq, Eq)]
-pub enum UnwrapFault {
-    /// The outer header is faulty.
-    Ip(IpFault),
-    /// The outer header's protocol isn't 4, IP within IP.
-    NotIpip,
-}

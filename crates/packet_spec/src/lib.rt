@@ -11,7 +11,6 @@
 //! | `Options` | where a TCP segment carries its maximum segment size | RFC 9293, section 3.2 |
 //! | `Packets` | a whole packet: its first fault, its key, its flags | |
 //! | `Edits` | source or destination set, the maximum segment size clamped, the sums computed | |
-//! | `Wrapping` | a packet put inside another, and taken out | RFC 2003 |
 //!
 //! A packet is the list of its bytes. Bytes past its total length are no part of it.
 #![tactic(auto)]
@@ -22,7 +21,7 @@ mod layout;
 mod options;
 mod words;
 
-pub use fault::{IpFault, PacketFault, SegmentFault, UnwrapFault, WrapFault};
+pub use fault::{IpFault, PacketFault, SegmentFault};
 pub use header::Ip4Header;
 pub use layout::Layout;
 pub use options::OptionStep;
