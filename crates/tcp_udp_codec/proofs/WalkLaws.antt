@@ -1,9 +1,8 @@
 -- What the walk over the options finds, by how the options are spelled.
-use Rattle.std.proofs.Common.{◌≡◌, ◌≢◌, ℕ, zero, suc, ◌+◌, ◌-◌, ◌*◌, ◌/◌, ◌%◌, ◌<◌, ◌≤◌, ◌==◌, List, [], ◌∷◌, ◌++◌, length, take, drop, get_or, Option, Some, None, refl, sym, ap, ◌∙◌, subst, arith, lit<, append_assoc}
+use Rattle.std.proofs.Common.{◌≡◌, ◌≢◌, ℕ, zero, suc, ◌+◌, ◌-◌, ◌<◌, ◌≤◌, List, [], ◌∷◌, ◌++◌, length, take, drop, get_or, Some, None, sym, ap, ◌∙◌, arith, append_assoc}
 use Rattle.std.specs.List.{slice_range}
 use Rattle.std.proofs.lemmas.List.{get_or-take, get_or-drop, length-take, length-drop, length-append, append-nil, drop-take, drop-drop}
 use Rattle.std.proofs.Math.Seq.{drop-append_seam}
-use Rattle.packet_spec.specs.declared.options.OptionStep.{OptionStep}
 use Rattle.packet_spec.specs.declared.options.OptionStep.TheVariants.{Stop, Size, Next}
 use Rattle.packet_spec.specs.Options.{data_offset, option_at, mss_from, mss_at}
 use Rattle.tcp_udp_codec.specs.Options.{OtherOption, Padding, Carrying, spelled, all_spelled, IsOther, AreOther, options_of}

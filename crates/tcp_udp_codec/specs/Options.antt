@@ -1,5 +1,5 @@
 -- The options of a TCP header as a list, and how they are spelled (RFC 9293, section 3.2).
-use Rattle.std.specs.Prelude.{◌≡◌, ◌≢◌, ℕ, ◌+◌, List, [], ◌∷◌, ◌++◌, length, slice_range}
+use Rattle.std.specs.Prelude.{◌≡◌, ◌≢◌, ◌≤◌, ℕ, ◌+◌, List, [], ◌∷◌, ◌++◌, length, slice_range}
 use Rattle.packet_spec.specs.Options.{data_offset}
 
 -- an option that isn't the maximum segment size: a byte of padding, or a kind with a value
@@ -29,3 +29,10 @@ AreOther (o ∷ os) = IsOther o × AreOther os
 -- the bytes between the fixed fields and the data
 abbrev pub options_of : List ℕ → List ℕ
 options_of s = slice_range s 20 (data_offset s)
+
+-- a segment's options begin with these and go on like this; with its fixed fields they have at most 60 bytes, all there
+pub record HasOptions (s : List ℕ) (before : List OtherOption) (tail : List ℕ) : Type 0 where
+  pub within : data_offset s ≤ length s
+  pub most : data_offset s ≤ 60
+  pub others : AreOther before
+  pub bytes : options_of s ≡ all_spelled before ++ tail
