@@ -9,6 +9,8 @@ mod rows;
 mod starts;
 mod store;
 mod table;
+#[cfg(test)]
+mod tests;
 
 pub use lease_spec::{Effect, EffectList, Outcome, Phase, Row};
 pub use table::Table;
