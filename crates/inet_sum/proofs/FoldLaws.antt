@@ -1,7 +1,8 @@
 -- Folding a sum of words gives their one's complement sum, whatever multiples of 65535 are added or taken away.
 use Rattle.std.proofs.Common.{◌≡◌, ℕ, zero, suc, ◌+◌, ◌-◌, ◌*◌, ◌/◌, ◌%◌, ◌<◌, ◌≤◌, List, [], ◌∷◌, ◌++◌, length, take, drop, refl, sym, ap, ◌∙◌, arith, lit<, get_or}
 use Rattle.std.proofs.Math.Nat.{add-mul-mod_self_left, div-add-mod', mod-eq_of_lt, mod-lt}
-use Rattle.std.proofs.lemmas.List.{take-append-drop, length-take}
+use Rattle.std.proofs.lemmas.List.{drop-drop, length-drop, take-append-drop, length-take}
+use Rattle.std.specs.Simd.{first_chunks}
 use Rattle.packet_spec.specs.Sums.{ones_add, ones_sum}
 use Rattle.inet_sum.specs.Folds.{folded, word_sum}
 use Rattle.std.specs.Int.{from_le_bytes, w16, w64}
@@ -198,3 +199,23 @@ last_block sum block xs bytes was h is =
     let order : sum + 256 * block ≡ 256 * block + sum = omega arith in
     let back : word_sum xs + sum ≡ sum + word_sum xs = omega arith in
     ap folded order ∙ folded_plus (256 * block) (word_sum xs) sum is ∙ ap folded back ∙ was ∙ sym (ones_sum_is_folded bytes h)
+
+-- the place of a chunk of eight bytes
+pub chunk_at : (k i : ℕ) (xs d : List ℕ) → i < k → get_or (first_chunks 8 k xs) i d ≡ take 8 (drop (8 * i) xs)
+chunk_at zero i xs d h = absurd (omega arith)
+chunk_at (suc k) zero xs d h = refl
+chunk_at (suc k) (suc i) xs d h =
+    let ih = chunk_at k i (drop 8 xs) d (omega arith) in
+    let place : 8 + 8 * i ≡ 8 * suc i = omega arith in
+    ih ∙ ap (λ (x : List ℕ). take 8 x) (drop-drop (8 * i) 8 xs ∙ ap (λ (n : ℕ). drop n xs) place)
+
+-- a step of one chunk: the halves of its number join the two sums
+pub chunk_more : (low high w i : ℕ) (xs d : List ℕ) (chunks : List (List ℕ)) (t : ℕ) → chunks ≡ first_chunks 8 (length xs / 8) xs → i < length xs / 8 → w ≡ from_le_bytes w64 (get_or chunks i d)
+    → folded (256 * (low + high) + word_sum (drop (8 * i) xs)) ≡ t → folded (256 * (low + w % 4294967296 + (high + w / 4294967296)) + word_sum (drop (8 * (i + 1)) xs)) ≡ t
+chunk_more low high w i xs d chunks t front lt is was =
+    let at = chunk_at (length xs / 8) i xs d lt in
+    let word : w ≡ from_le_bytes w64 (take 8 (drop (8 * i) xs)) = is ∙ ap (λ (c : List (List ℕ)). from_le_bytes w64 (get_or c i d)) front ∙ ap (from_le_bytes w64) at in
+    let room : 8 ≤ length (drop (8 * i) xs) = omega (arith, length-drop (8 * i) xs) in
+    let more = eight_bytes_more low high w (drop (8 * i) xs) t was room word in
+    let place : 8 * i + 8 ≡ 8 * (i + 1) = omega arith in
+    ap (λ (x : List ℕ). folded (256 * (low + w % 4294967296 + (high + w / 4294967296)) + word_sum x)) (sym (drop-drop 8 (8 * i) xs ∙ ap (λ (n : ℕ). drop n xs) place)) ∙ more

@@ -35,7 +35,7 @@ fn tail_sum(bytes: &[u8]) -> u64
 }
 
 /// The sum of a block as little-endian words, two times 32 bits at a step, with its carries still in it.
-#[tactic(auto, using(crate::proofs::FoldLaws::eight_bytes_more, crate::proofs::FoldLaws::tail_added))]
+#[tactic(auto, using(crate::proofs::FoldLaws::chunk_more, crate::proofs::FoldLaws::tail_added))]
 pub(crate) fn block_sum(bytes: &[u8]) -> u64
     requires { length bytes.now ≤ 65536 }
     ensures sum { folded (256 * result) ≡ folded (word_sum bytes.now) }
@@ -43,12 +43,11 @@ pub(crate) fn block_sum(bytes: &[u8]) -> u64
 {
     let mut low = 0u64;
     let mut high = 0u64;
-    let mut left = bytes;
-    while let Some((bytes, rest)) = left.split_first_chunk::<8>() {
-        let word = u64::from_le_bytes(*bytes);
+    let (words, rest) = bytes.as_chunks::<8>();
+    for eight in words {
+        let word = u64::from_le_bytes(*eight);
         low += word % 0x1_0000_0000;
         high += word / 0x1_0000_0000;
-        left = rest;
     }
-    low + high + tail_sum(left)
+    low + high + tail_sum(rest)
 }

@@ -10,7 +10,8 @@
 //!
 //! Each edit is on a buffer whose packet was read without a fault, and leaves both checksums as they are computed: a
 //! UDP checksum of 0 stays 0, and a computed UDP checksum of 0 is written FFFF. Every other byte stays, those past the
-//! total length too. Which packets are translated, and to what, is left to the caller.
+//! total length too. The edited packet is again one without a fault. Which packets are translated, and to what, is
+//! left to the caller.
 #![tactic(auto)]
 
 mod fields;

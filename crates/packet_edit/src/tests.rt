@@ -101,7 +101,8 @@ fn translates_what_leaves(rt: HostRuntime) {
     assert!(rt; leaves_as(&mut syn, &SYN_OUT));
 }
 
-/// Whether the bytes are a packet that makes these others, once it is handed to the machine's port 5000 one hop further.
+/// Whether the bytes are a packet that makes these others, once it is handed to the machine's port 5000 one hop
+/// further.
 fn is_handed_as(bytes: &mut [u8], handed: &[u8]) -> bool {
     let (ttl, len) = match Packet::read(bytes) {
         Ok(packet) => (packet.ttl(), packet.len()),

@@ -14,7 +14,8 @@ data_offset s = 4 * data_words s
 
 -- an option whose length byte is missing, too small, or goes past the end of the options
 abbrev pub is_broken : List ℕ → ℕ → ℕ → Bool
-is_broken s end at = nat_le end (at + 1) || nat_lt (slice_index s (at + 1)) 2 || nat_lt end (at + slice_index s (at + 1))
+is_broken s end at =
+    nat_le end (at + 1) || nat_lt (slice_index s (at + 1)) 2 || nat_lt end (at + slice_index s (at + 1))
 
 -- what stands at a place
 unfoldable pub option_at : List ℕ → ℕ → ℕ → OptionStep

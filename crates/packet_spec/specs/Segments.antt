@@ -50,7 +50,8 @@ is_ack Udp s = false
 
 -- the pseudo-header: both addresses, a zero byte, the protocol, the segment's length
 unfoldable pub pseudo_header : Proto → Ip4 → Ip4 → ℕ → List ℕ
-pseudo_header proto src dst len = address_bytes src ++ address_bytes dst ++ 0 ∷ proto_number proto ∷ [] ++ word_bytes len
+pseudo_header proto src dst len =
+    address_bytes src ++ address_bytes dst ++ 0 ∷ proto_number proto ∷ [] ++ word_bytes len
 
 -- what the checksum of a segment covers
 abbrev pub covered : Proto → Ip4 → Ip4 → List ℕ → List ℕ
@@ -118,4 +119,5 @@ segment_bytes Udp s = take (udp_length s) s
 
 -- reading a segment: its bytes, or the first fault
 unfoldable pub read_segment : Proto → Ip4 → Ip4 → List ℕ → Result Segment SegmentFault
-read_segment proto src dst s = unless_fault (segment_fault proto src dst s) (record { proto = proto; bytes = segment_bytes proto s })
+read_segment proto src dst s =
+    unless_fault (segment_fault proto src dst s) (record { proto = proto; bytes = segment_bytes proto s })

@@ -12,10 +12,12 @@
 //! A UDP segment has as many bytes as its length says; what follows is no part of it, and isn't summed.
 #![tactic(auto)]
 
+mod laws;
 mod options;
 mod pseudo;
 mod segment;
 
+pub use laws::finds_the_first_maximum_segment_size;
 pub use options::mss_at;
 pub use packet_spec::SegmentFault;
 pub use pseudo::{segment_checksum, segment_sum};
