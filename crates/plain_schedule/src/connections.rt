@@ -29,9 +29,7 @@ pub struct Connections {
 
 impl Model for Connections {
     ghost use Rattle.std.specs.Prelude.{List};
-
     ghost use Rattle.indexmap.specs.IndexMap.{get};
-
     ghost use Rattle.plain_schedule.specs.declared.connections.Connection.{Connection as Opened};
 
     ghost Value = { List Opened };

@@ -98,11 +98,12 @@ set_block size flag (block ∷ blocks) flags (suc j) r at k is here small sums =
     let front : take size (set flags k flag) ≡ take size flags = take-set-le size flags k flag (omega arith) in
     let back : drop size (set flags k flag) ≡ set (drop size flags) (size * j + r) flag = ap (λ x. drop size (set flags x flag)) index ∙ drop-set-add size flags (size * j + r) flag in
     let again : drop at (set flags k flag) ≡ drop (size * j) (set (drop size flags) (size * j + r) flag) =
-      sym (drop_again size (size * j) at (set flags k flag) (omega (arith, more))) ∙ ap (drop (size * j)) back in
-    let rest = set_block size flag blocks (drop size flags) j r (size * j) (size * j + r) refl refl small sums.1 in
-    (sums.0 ∙ sym (ap any_set front),
+    sym (drop_again size (size * j) at (set flags k flag) (omega (arith, more))) ∙ ap (drop (size * j)) back in
+    let rest = set_block size flag blocks (drop size flags) j r (size * j) (size * j + r) refl refl small sums.1 in (
+      sums.0 ∙ sym (ap any_set front),
       subst (Summarizes size (set blocks j (any_set (take size (drop at (set flags k flag)))))) (sym back)
-        (subst (λ xs. Summarizes size (set blocks j (any_set (take size xs))) (set (drop size flags) (size * j + r) flag)) (sym again) rest))
+          (subst (λ xs. Summarizes size (set blocks j (any_set (take size xs))) (set (drop size flags) (size * j + r) flag)) (sym again) rest),
+    )
 
 -- ---- no flag
 

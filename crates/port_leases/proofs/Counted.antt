@@ -126,10 +126,10 @@ pub counted-bury : (n : ℕ) (es : List Entry) (live : ℕ) → IsCounted es liv
 counted-bury n es live h there = record {
   ascend = ascend_map (at_number n dead) (keeps_at n dead (λ e. refl)) es h.ascend;
   count =
-    let fewer : length (filter (λ row. not (row.n == n)) (live_rows es)) + 1 ≡ length (live_rows es) = length-without n (live_rows es) (rows_ascend es h.ascend) there in
-    let left : length (live_rows (map (at_number n dead) es)) ≡ length (filter (λ row. not (row.n == n)) (live_rows es)) = ap length (live_rows-bury n es) in
-    let was : live ≡ length (live_rows es) = h.count in
-    omega arith;
+      let fewer : length (filter (λ row. not (row.n == n)) (live_rows es)) + 1 ≡ length (live_rows es) = length-without n (live_rows es) (rows_ascend es h.ascend) there in
+      let left : length (live_rows (map (at_number n dead) es)) ≡ length (filter (λ row. not (row.n == n)) (live_rows es)) = ap length (live_rows-bury n es) in
+      let was : live ≡ length (live_rows es) = h.count in
+      omega arith;
 }
 
 pub next-bury : (n : ℕ) (es : List Entry) → next_number (map (at_number n dead) es) ≡ next_number es

@@ -192,14 +192,15 @@ raised : (agent boot : ℕ) (t : Leases) → Raised t.rows (raise_known agent bo
 unfolding raise_known
 raised agent boot t =
     elim (nat_lt (known_boot t.known agent) boot) as
-        (λ (b : Bool). Raised t.rows (if b
-            then record { leases = record t { rows = map (cleared agent boot) t.rows; known = with_known agent boot t.known }; effects = boot_effects agent boot t.rows }
-            else nothing t)) [
-      true ↦ record {
+    (λ (b : Bool). Raised t.rows (if b
+    then record { leases = record t { rows = map (cleared agent boot) t.rows; known = with_known agent boot t.known }; effects = boot_effects agent boot t.rows }
+    else nothing t)) [
+      | true ↦ record {
         few = let all = cleared_alive agent boot t.rows in omega (arith, all);
         order = λ next h. order-map (cleared agent boot) (λ row. grind arith) t.rows next h;
       }
-    | false ↦ raised_none t ]
+      | false ↦ raised_none t
+    ]
 
 bounded_none : (place next : ℕ) (t : Leases) → InOrder t.rows next → next ≤ place → Bounded place t.rows (nothing t)
 bounded_none place next t h le = record { few = omega arith; order = order_more next (place + 1) t.rows (omega arith) h }
@@ -215,19 +216,20 @@ decided : (rules : LeaseRules) (place boot : ℕ) (rule : MachineRule) (seq next
 unfolding decide
 decided rules place boot rule seq next t h le =
     elim (nat_le rules.limit (row_count t.rows rule.machine)) as
-        (λ (b : Bool). Bounded place t.rows (if b
-            then record { leases = noted rule.machine boot seq (outcome.AtLimit (row_count t.rows rule.machine)) t; effects = effect.AtLimit rule.machine boot seq (row_count t.rows rule.machine) ∷ [] }
-            else take_range place rule.agent boot rule.machine seq t (least_free rules t.rows rule.vip))) [
-      true ↦ record { few = omega arith; order = order_more next (place + 1) t.rows (omega arith) h }
-    | false ↦ taken place rule.agent boot rule.machine seq next t (least_free rules t.rows rule.vip) h le ]
+    (λ (b : Bool). Bounded place t.rows (if b
+    then record { leases = noted rule.machine boot seq (outcome.AtLimit (row_count t.rows rule.machine)) t; effects = effect.AtLimit rule.machine boot seq (row_count t.rows rule.machine) ∷ [] }
+    else take_range place rule.agent boot rule.machine seq t (least_free rules t.rows rule.vip))) [
+      | true ↦ record { few = omega arith; order = order_more next (place + 1) t.rows (omega arith) h }
+      | false ↦ taken place rule.agent boot rule.machine seq next t (least_free rules t.rows rule.vip) h le
+    ]
 
 bounded_next : (place : ℕ) (before : List Row) (d : Done) (f : Leases → Done) → Raised before d → Bounded place d.leases.rows (f d.leases) → Bounded place before (nexts d f)
 bounded_next place before d f raised bounded = record {
   few =
-    let both = length-append d.effects (f d.leases).effects in
-    let first = raised.few in
-    let second = bounded.few in
-    omega (arith, both, first, second);
+      let both = length-append d.effects (f d.leases).effects in
+      let first = raised.few in
+      let second = bounded.few in
+      omega (arith, both, first, second);
   order = bounded.order;
 }
 
@@ -236,10 +238,11 @@ unfolding reserve
 reserved rules place agent boot seq next None t h le = bounded_none place next t h le
 reserved rules place agent boot seq next (Some rule) t h le =
     elim ((rule.agent == agent) && nat_le (known_boot t.known agent) boot && is_later boot seq (last_of t.lasts rule.machine)) as
-        (λ (b : Bool). Bounded place t.rows (if b then nexts (raise_known agent boot t) (decide rules place boot rule seq) else nothing t)) [
-      true ↦ bounded_next place t.rows (raise_known agent boot t) (decide rules place boot rule seq) (raised agent boot t)
+    (λ (b : Bool). Bounded place t.rows (if b then nexts (raise_known agent boot t) (decide rules place boot rule seq) else nothing t)) [
+      | true ↦ bounded_next place t.rows (raise_known agent boot t) (decide rules place boot rule seq) (raised agent boot t)
           (decided rules place boot rule seq next (raise_known agent boot t).leases ((raised agent boot t).order next h) le)
-    | false ↦ bounded_none place next t h le ]
+      | false ↦ bounded_none place next t h le
+    ]
 
 moved : (place next n : ℕ) (phase : Phase) (t : Leases) (row : Row) (e : Effect) → InOrder t.rows next → next ≤ place → row_at t.rows n ≡ Some row → is_freeing row.phase ≡ false
     → Bounded place t.rows (record { leases = record t { rows = move row.n phase t.rows }; effects = e ∷ [] })
@@ -279,24 +282,26 @@ unfolding free
 freed place next n None t h le = bounded_none place next t h le
 freed place next n (Some row) t h le =
     elim (is_freeing row.phase) as
-        (λ (b : Bool). Bounded place t.rows (if b then record { leases = record t { rows = filter (λ other. not (other.n == row.n)) t.rows }; effects = effect.Freed row ∷ [] } else nothing t)) [
-      true ↦ record {
+    (λ (b : Bool). Bounded place t.rows (if b then record { leases = record t { rows = filter (λ other. not (other.n == row.n)) t.rows }; effects = effect.Freed row ∷ [] } else nothing t)) [
+      | true ↦ record {
         few = let all = filter_alive (λ other. not (other.n == row.n)) t.rows in omega (arith, all);
         order = order_more next (place + 1) _ (omega arith) (order-filter (λ other. not (other.n == row.n)) t.rows next h);
       }
-    | false ↦ bounded_none place next t h le ]
+      | false ↦ bounded_none place next t h le
+    ]
 
 upped : (place next agent boot : ℕ) (t : Leases) → InOrder t.rows next → next ≤ place → Bounded place t.rows (up agent boot t)
 unfolding up
 upped place next agent boot t h le =
     let lifted = raised agent boot t in
     elim (nat_lt agent 256 && nat_lt (known_boot t.known agent) boot) as
-        (λ (b : Bool). Bounded place t.rows (if b then record { leases = (raise_known agent boot t).leases; effects = effect.Known agent boot ∷ (raise_known agent boot t).effects } else nothing t)) [
-      true ↦ record {
+    (λ (b : Bool). Bounded place t.rows (if b then record { leases = (raise_known agent boot t).leases; effects = effect.Known agent boot ∷ (raise_known agent boot t).effects } else nothing t)) [
+      | true ↦ record {
         few = let all = lifted.few in omega (arith, all);
         order = order_more next (place + 1) _ (omega arith) (lifted.order next h);
       }
-    | false ↦ bounded_none place next t h le ]
+      | false ↦ bounded_none place next t h le
+    ]
 
 pub bounded_command : (rules : LeaseRules) (place next : ℕ) (c : LogCommand) (t : Leases) → InOrder t.rows next → next ≤ place → Bounded place t.rows (command rules place c t)
 bounded_command rules place next (Reserve agent boot machine seq) t h le = reserved rules place agent boot seq next (rule_of rules machine) t h le
@@ -340,45 +345,53 @@ decide_quiet : (rules : LeaseRules) (place boot : ℕ) (rule : MachineRule) (seq
 unfolding decide
 decide_quiet rules place boot rule seq t =
     elim (nat_le rules.limit (row_count t.rows rule.machine)) as
-        (λ (b : Bool). Quiet t (if b
-            then record { leases = noted rule.machine boot seq (outcome.AtLimit (row_count t.rows rule.machine)) t; effects = effect.AtLimit rule.machine boot seq (row_count t.rows rule.machine) ∷ [] }
-            else take_range place rule.agent boot rule.machine seq t (least_free rules t.rows rule.vip))) [
-      true ↦ record { few = omega arith; known = refl }
-    | false ↦ take_quiet place rule.agent boot rule.machine seq t (least_free rules t.rows rule.vip) ]
+    (λ (b : Bool). Quiet t (if b
+    then record { leases = noted rule.machine boot seq (outcome.AtLimit (row_count t.rows rule.machine)) t; effects = effect.AtLimit rule.machine boot seq (row_count t.rows rule.machine) ∷ [] }
+    else take_range place rule.agent boot rule.machine seq t (least_free rules t.rows rule.vip))) [
+      | true ↦ record { few = omega arith; known = refl }
+      | false ↦ take_quiet place rule.agent boot rule.machine seq t (least_free rules t.rows rule.vip)
+    ]
 
 reserve_quiet : (rules : LeaseRules) (place agent boot seq : ℕ) (o : Option MachineRule) (t : Leases) → nat_lt (known_boot t.known agent) boot ≡ false → Quiet t (reserve rules place agent boot seq o t)
 unfolding reserve
 reserve_quiet rules place agent boot seq None t quiet = quiet_none t
 reserve_quiet rules place agent boot seq (Some rule) t quiet =
     let same : nexts (nothing t) (decide rules place boot rule seq) ≡ nexts (raise_known agent boot t) (decide rules place boot rule seq) =
-      ap (λ d. nexts d (decide rules place boot rule seq)) (sym (raise_quiet agent boot t quiet)) in
+    ap (λ d. nexts d (decide rules place boot rule seq)) (sym (raise_quiet agent boot t quiet)) in
     let did = decide_quiet rules place boot rule seq t in
     let raised : Quiet t (nexts (nothing t) (decide rules place boot rule seq)) = record { few = did.few; known = did.known } in
     elim ((rule.agent == agent) && nat_le (known_boot t.known agent) boot && is_later boot seq (last_of t.lasts rule.machine)) as
-        (λ (b : Bool). Quiet t (if b then nexts (raise_known agent boot t) (decide rules place boot rule seq) else nothing t)) [
-      true ↦ subst (Quiet t) same raised
-    | false ↦ quiet_none t ]
+    (λ (b : Bool). Quiet t (if b then nexts (raise_known agent boot t) (decide rules place boot rule seq) else nothing t)) [
+      | true ↦ subst (Quiet t) same raised
+      | false ↦ quiet_none t
+    ]
 
 grant_quiet : (t : Leases) (o : Option Row) → Quiet t (grant t o)
 unfolding grant
 grant_quiet t None = quiet_none t
 grant_quiet t (Some row) =
     elim (is_being row.phase) as (λ (b : Bool). Quiet t (if b then record { leases = record t { rows = move row.n Leased t.rows }; effects = effect.Granted (at_phase Leased row) ∷ [] } else nothing t)) [
-      true ↦ record { few = omega arith; known = refl } | false ↦ quiet_none t ]
+      | true ↦ record { few = omega arith; known = refl }
+      | false ↦ quiet_none t
+    ]
 
 release_quiet : (t : Leases) (o : Option Row) → Quiet t (release t o)
 unfolding release
 release_quiet t None = quiet_none t
 release_quiet t (Some row) =
     elim (not (is_freeing row.phase)) as (λ (b : Bool). Quiet t (if b then record { leases = record t { rows = move row.n Freeing t.rows }; effects = effect.Released (at_phase Freeing row) ∷ [] } else nothing t)) [
-      true ↦ record { few = omega arith; known = refl } | false ↦ quiet_none t ]
+      | true ↦ record { few = omega arith; known = refl }
+      | false ↦ quiet_none t
+    ]
 
 free_quiet : (t : Leases) (o : Option Row) → Quiet t (free t o)
 unfolding free
 free_quiet t None = quiet_none t
 free_quiet t (Some row) =
     elim (is_freeing row.phase) as (λ (b : Bool). Quiet t (if b then record { leases = record t { rows = filter (λ other. not (other.n == row.n)) t.rows }; effects = effect.Freed row ∷ [] } else nothing t)) [
-      true ↦ record { few = omega arith; known = refl } | false ↦ quiet_none t ]
+      | true ↦ record { few = omega arith; known = refl }
+      | false ↦ quiet_none t
+    ]
 
 up_quiet : (agent boot : ℕ) (t : Leases) → nat_lt (known_boot t.known agent) boot ≡ false → Quiet t (up agent boot t)
 unfolding up
@@ -446,18 +459,18 @@ going_on all rules place c cs t t2 before after h is adds =
     record {
       leases = ap (λ x. (apply rules (placed (place + 1) cs) x).leases) is ∙ sym (ap (λ (d : Done). d.leases) first) ∙ h.leases;
       effects =
-        ap (λ x. after.effects ++ (apply rules (placed (place + 1) cs) x).effects) is
+          ap (λ x. after.effects ++ (apply rules (placed (place + 1) cs) x).effects) is
           ∙ ap (λ es. es ++ rest.effects) adds.effects
           ∙ append_assoc before.effects did rest.effects
           ∙ sym (ap (λ (d : Done). before.effects ++ d.effects) first)
           ∙ h.effects;
       fits =
-        let all2 = ap (λ (d : Done). length d.effects) first in
-        let both = length-append did rest.effects in
-        let told = h.fits in
-        let left = adds.room in
-        let same = ap (λ x. length (apply rules (placed (place + 1) cs) x).effects) is in
-        omega (arith, all2, both, told, left, same);
+          let all2 = ap (λ (d : Done). length d.effects) first in
+          let both = length-append did rest.effects in
+          let told = h.fits in
+          let left = adds.room in
+          let same = ap (λ x. length (apply rules (placed (place + 1) cs) x).effects) is in
+          omega (arith, all2, both, told, left, same);
     }
 
 pub any_here : (p : LogCommand → Bool) (cs : List LogCommand) (i : ℕ) (c : LogCommand) → slice_get cs i ≡ Some c → p c ≡ true → list_any p cs ≡ true

@@ -109,30 +109,30 @@ module _ (p : Row → Bool) (gone : Row) where
   count-without [] h there = absurd (cc)
   count-without (row ∷ rows) h there =
       ⊎_elim
-        (λ here. let left = ap (count_by p) here.1 in let step = count-cons p row rows in let same : cond (p row) 1 0 ≡ cond (p gone) 1 0 = ap {B = ℕ} (λ x. cond (p x) 1 0) here.0 in omega (arith, left, step, same))
-        (λ later.
-          let left = ap (count_by p) later.1 in
-          let step = count-cons p row rows in
-          let kept = count-cons p row (without gone.n rows) in
-          let rest = count-without rows h.1 later.0 in
-          omega (arith, left, step, kept, rest))
-        (head_or_tail gone row rows h there)
+      (λ here. let left = ap (count_by p) here.1 in let step = count-cons p row rows in let same : cond (p row) 1 0 ≡ cond (p gone) 1 0 = ap {B = ℕ} (λ x. cond (p x) 1 0) here.0 in omega (arith, left, step, same))
+      (λ later.
+      let left = ap (count_by p) later.1 in
+      let step = count-cons p row rows in
+      let kept = count-cons p row (without gone.n rows) in
+      let rest = count-without rows h.1 later.0 in
+      omega (arith, left, step, kept, rest))
+      (head_or_tail gone row rows h there)
 
   pub any-without : (rows : List Row) → RowsAscend rows → row_at rows gone.n ≡ Some gone → p gone ≡ false → list_any p (without gone.n rows) ≡ list_any p rows
   any-without [] h there other = absurd (cc)
   any-without (row ∷ rows) h there other =
       ⊎_elim
-        (λ here. let left = ap (list_any p) here.1 in let same = ap p here.0 ∙ other in left ∙ sym (ap (λ b. b || list_any p rows) same))
-        (λ later. ap (list_any p) later.1 ∙ ap (λ b. p row || b) (any-without rows h.1 later.0 other))
-        (head_or_tail gone row rows h there)
+      (λ here. let left = ap (list_any p) here.1 in let same = ap p here.0 ∙ other in left ∙ sym (ap (λ b. b || list_any p rows) same))
+      (λ later. ap (list_any p) later.1 ∙ ap (λ b. p row || b) (any-without rows h.1 later.0 other))
+      (head_or_tail gone row rows h there)
 
   pub find-without : (rows : List Row) → RowsAscend rows → row_at rows gone.n ≡ Some gone → p gone ≡ false → find p (without gone.n rows) ≡ find p rows
   find-without [] h there other = absurd (cc)
   find-without (row ∷ rows) h there other =
       ⊎_elim
-        (λ here. let left = ap (find p) here.1 in let same = ap p here.0 ∙ other in left ∙ sym (ap (λ b. cond b (Some row) (find p rows)) same))
-        (λ later. ap (find p) later.1 ∙ ap (λ o. cond (p row) (Some row) o) (find-without rows h.1 later.0 other))
-        (head_or_tail gone row rows h there)
+      (λ here. let left = ap (find p) here.1 in let same = ap p here.0 ∙ other in left ∙ sym (ap (λ b. cond b (Some row) (find p rows)) same))
+      (λ later. ap (find p) later.1 ∙ ap (λ o. cond (p row) (Some row) o) (find-without rows h.1 later.0 other))
+      (head_or_tail gone row rows h there)
 
 -- ---- the indexes
 
@@ -201,30 +201,30 @@ pub indexed-push : (rows : List Row) (row : Row) (numbers numbers2 : Range → O
     → IsIndexed (rows ++ row ∷ []) numbers2 counts2
 indexed-push rows row numbers numbers2 counts counts2 h free number count = record {
   numbers = λ r. by_test (same_range row.range r)
-    (λ hit.
+      (λ hit.
       let none = subst (λ (x : Range). has_no_row rows x ≡ true) (range_is row.range r hit) free in
       (rw hit at (number r)) ∙ sym (ap number_of (push_here (λ row. same_range row.range r) rows row none hit)))
-    (λ miss. (rw miss at (number r)) ∙ h.numbers r ∙ sym (ap number_of (push_other (λ row. same_range row.range r) rows row miss)));
+      (λ miss. (rw miss at (number r)) ∙ h.numbers r ∙ sym (ap number_of (push_other (λ row. same_range row.range r) rows row miss)));
   single = λ r. by_test (same_range row.range r)
-    (λ hit.
+      (λ hit.
       let none = subst (λ (x : Range). has_no_row rows x ≡ true) (range_is row.range r hit) free in
       let before = none_counted (λ row. same_range row.range r) rows none in
       let after = count-push (λ row. same_range row.range r) rows row in
       let one = one_at (same_range row.range r) hit in
       omega (arith, before, after, one))
-    (λ miss.
+      (λ miss.
       let before = h.single r in
       let after = count-push (λ row. same_range row.range r) rows row in
       let one = none_at (same_range row.range r) miss in
       omega (arith, before, after, one));
   counts = λ m. by_test (same_address row.machine m)
-    (λ hit.
+      (λ hit.
       let now = rw hit at (count m) in
       let before = subst (λ (x : Ip4). unwrap_or (counts row.machine) 0 ≡ row_count rows x) (address_is row.machine m hit) (h.counts row.machine) in
       let after = count-push (λ row. row.machine.0 == m.0) rows row in
       let one = one_at (row.machine.0 == m.0) hit in
       rw now (omega (arith, before, after, one)))
-    (λ miss.
+      (λ miss.
       let now = rw miss at (count m) in
       let before = h.counts m in
       let after = count-push (λ row. row.machine.0 == m.0) rows row in
@@ -246,19 +246,19 @@ pub indexed-without : (rows : List Row) (gone : Row) (numbers numbers2 : Range �
     → IsIndexed (without gone.n rows) numbers2 counts2
 indexed-without rows gone numbers numbers2 counts counts2 h ascend there number count = record {
   numbers = λ r. by_test (same_range gone.range r)
-    (λ hit.
+      (λ hit.
       let none = only (λ row. same_range row.range r) rows gone ascend there (h.single r) hit in
       (rw hit at (number r)) ∙ sym (ap number_of (none_found (λ row. same_range row.range r) (without gone.n rows) none)))
-    (λ miss. (rw miss at (number r)) ∙ h.numbers r ∙ sym (ap number_of (find-without (λ row. same_range row.range r) gone rows ascend there miss)));
+      (λ miss. (rw miss at (number r)) ∙ h.numbers r ∙ sym (ap number_of (find-without (λ row. same_range row.range r) gone rows ascend there miss)));
   single = λ r. let counted = count-without (λ row. same_range row.range r) gone rows ascend there in let before = h.single r in omega (arith, counted, before);
   counts = λ m. by_test (same_address gone.machine m)
-    (λ hit.
+      (λ hit.
       let now = rw hit at (count m) in
       let before = subst (λ (x : Ip4). unwrap_or (counts gone.machine) 0 ≡ row_count rows x) (address_is gone.machine m hit) (h.counts gone.machine) in
       let after = count-without (λ row. row.machine.0 == m.0) gone rows ascend there in
       let one = one_at (gone.machine.0 == m.0) hit in
       rw now (omega (arith, before, after, one)))
-    (λ miss.
+      (λ miss.
       let now = rw miss at (count m) in
       let before = h.counts m in
       let after = count-without (λ row. row.machine.0 == m.0) gone rows ascend there in
@@ -270,8 +270,8 @@ pub free-without : (rows : List Row) (gone : Row) → RowsAscend rows → row_at
     → (r : Range) → has_no_row (without gone.n rows) r ≡ (same_range gone.range r || has_no_row rows r)
 free-without rows gone ascend there single r =
     by_test (same_range gone.range r)
-      (λ hit. only (λ row. same_range row.range r) rows gone ascend there (single r) hit ∙ sym (ap (λ b. b || has_no_row rows r) hit))
-      (λ miss. ap not (any-without (λ row. same_range row.range r) gone rows ascend there miss) ∙ sym (ap (λ b. b || has_no_row rows r) miss))
+    (λ hit. only (λ row. same_range row.range r) rows gone ascend there (single r) hit ∙ sym (ap (λ b. b || has_no_row rows r) hit))
+    (λ miss. ap not (any-without (λ row. same_range row.range r) gone rows ascend there miss) ∙ sym (ap (λ b. b || has_no_row rows r) miss))
 
 -- a row counts among its machine's
 pub counted_machine : (rows : List Row) (row : Row) → row_at rows row.n ≡ Some row → 0 < row_count rows row.machine

@@ -23,22 +23,22 @@ ascend_pair (e ∷ es) (suc i) (suc j) d h less within = ascend_pair es i j d h.
 pub ascend_by : (es : List Entry) → Ascend es → IsNonDecreasingBy (λ (e : Entry). e.row.n) es
 ascend_by es h i j d low within =
     ⊎_elim (λ less. let p : (get_or es i d).row.n < (get_or es j d).row.n = ascend_pair es i j d h less within in omega arith)
-      (λ other. let same : i ≡ j = omega arith in subst (λ (k : ℕ). (get_or es i d).row.n ≤ (get_or es k d).row.n) same (omega arith))
-      (cases_lt i j)
+    (λ other. let same : i ≡ j = omega arith in subst (λ (k : ℕ). (get_or es i d).row.n ≤ (get_or es k d).row.n) same (omega arith))
+    (cases_lt i j)
 
 -- the first entry that isn't below n has another number
 pub lacks : (n : ℕ) (es : List Entry) (i : ℕ) (d : Entry) → Ascend es → SplitsAt n es i → (i < length es → (get_or es i d).row.n ≢ n) → Lacks n es
 lacks n es i d h split other k e within same =
     ⊎_elim (λ less. let p : (get_or es k e).row.n < n = split.front k e less in omega arith)
-      (λ rest. ⊎_elim
-        (λ more. let p : (get_or es i e).row.n < (get_or es k e).row.n = ascend_pair es i k e h more within in
-          let q : n ≤ (get_or es i e).row.n = split.back i e (omega arith) (omega arith) in omega arith)
-        (λ last.
-          let here : k ≡ i = omega arith in
-          let at : i < length es = omega arith in
-          other at (ap (λ (x : Entry). x.row.n) (get_or_default es i d e at) ∙ subst (λ (j : ℕ). (get_or es j e).row.n ≡ n) here same))
-        (cases_lt i k))
-      (cases_lt k i)
+    (λ rest. ⊎_elim
+    (λ more. let p : (get_or es i e).row.n < (get_or es k e).row.n = ascend_pair es i k e h more within in
+    let q : n ≤ (get_or es i e).row.n = split.back i e (omega arith) (omega arith) in omega arith)
+    (λ last.
+    let here : k ≡ i = omega arith in
+    let at : i < length es = omega arith in
+    other at (ap (λ (x : Entry). x.row.n) (get_or_default es i d e at) ∙ subst (λ (j : ℕ). (get_or es j e).row.n ≡ n) here same))
+    (cases_lt i k))
+    (cases_lt k i)
 
 pub split_below : (n : ℕ) (es : List Entry) (i : ℕ) → i ≤ length es → IsPartitionPoint (λ (e : Entry). nat_lt e.row.n n ≡ true) (λ (e : Entry). nat_lt e.row.n n ≡ false) es i → SplitsAt n es i
 split_below n es i within h = record {

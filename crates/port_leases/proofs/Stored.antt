@@ -52,13 +52,13 @@ module _ (rules : LeaseRules) (rows rows2 : List Row) (x : Range) (b : Bool) (j 
     named = h.named;
     count = length-set flags j b ∙ h.count;
     each = λ k within. by_test (k == j)
-      (λ hit.
+        (λ hit.
         let same = eqb-true k j hit in
         let inside : j < length flags = subst (λ (i : ℕ). i < length flags) same (rw (length-set flags j b) at within) in
         let start : x.start ≡ 8 * k = at ∙ ap (λ i. 8 * i) (sym same) in
         let range : x ≡ range_at vip (8 * k) = λ i. record { vip = sym is i; start = start i } in
         ap (λ i. get_or (set flags j b) i false) same ∙ get_or-set_same flags j b false inside ∙ sym here ∙ ap (is_free rules rows2) range)
-      (λ miss.
+        (λ miss.
         let other : k ≢ j = λ same. true≢false (sym (eq-eqb k j same) ∙ miss) in
         let inside : k < length flags = rw (length-set flags j b) at within in
         let start : (x.start == 8 * k) ≡ false = by_test (x.start == 8 * k) (λ equal. let is = eqb-true x.start (8 * k) equal in absurd (other (omega (arith, is, at)))) (λ apart. apart) in
@@ -80,11 +80,11 @@ module _ (rules : LeaseRules) (rows rows2 : List Row) (x : Range) (b : Bool) (j 
   stored-set rule free free2 h is = record {
     machines = h.machines;
     vips = λ vip. by_test (same_address x.vip vip)
-      (λ hit.
+        (λ hit.
         let now = rw hit at (is vip) in
         let same = sym (address_is x.vip vip hit) in
         rw now (set_free vip (free x.vip) same (subst (λ v. IsFreeOf rules rows vip (free v)) same (h.vips vip))))
-      (λ miss. let now = rw miss at (is vip) in rw now (other_free vip (free vip) miss (h.vips vip)));
+        (λ miss. let now = rw miss at (is vip) in rw now (other_free vip (free vip) miss (h.vips vip)));
   }
 
 -- ---- the least free start
@@ -159,8 +159,8 @@ starts_at_8 : (start : ℕ) (a : ℕ) (vips : List VipRule) → list_any (λ rul
 starts_at_8 start a [] some = absurd (true≢false (sym some))
 starts_at_8 start a (rule ∷ vips) some =
     by_test ((rule.vip.0 == a) && allows rule start)
-      (λ hit. eqb-true (start % 8) 0 (and_left _ _ (and_left _ _ (and_left _ _ (and_right _ _ hit)))))
-      (λ miss. starts_at_8 start a vips (rw miss at some))
+    (λ hit. eqb-true (start % 8) 0 (and_left _ _ (and_left _ _ (and_left _ _ (and_right _ _ hit)))))
+    (λ miss. starts_at_8 start a vips (rw miss at some))
 
 pub leasable-start : (rules : LeaseRules) (x : Range) → is_leasable rules x ≡ true → x.start ≡ 8 * (x.start / 8)
 leasable-start rules x some = let rest : x.start % 8 ≡ 0 = starts_at_8 x.start x.vip.0 rules.vips some in omega arith
@@ -173,11 +173,11 @@ pub stored-take : (rules : LeaseRules) (rows : List Row) (row : Row) (rule : Ip4
     → IsStored rules (rows ++ row ∷ []) rule free2
 stored-take rules rows row rule free free2 h some is =
     stored-set rules rows (rows ++ row ∷ []) row.range false (row.range.start / 8) (leasable-start rules row.range (and_left _ _ some))
-      (λ r other. ap (λ b. is_leasable rules r && not b) (any-push (λ row. same_range row.range r) rows row ∙ ap (λ c. list_any (λ row. same_range row.range r) rows || c) other ∙ or-false _))
-      (ap (λ b. is_leasable rules row.range && not b)
-          (any-push (λ other. same_range other.range row.range) rows row ∙ ap (λ c. list_any (λ other. same_range other.range row.range) rows || c) (same_refl row.range) ∙ or-true _)
-        ∙ and-false (is_leasable rules row.range))
-      rule free free2 h is
+    (λ r other. ap (λ b. is_leasable rules r && not b) (any-push (λ row. same_range row.range r) rows row ∙ ap (λ c. list_any (λ row. same_range row.range r) rows || c) other ∙ or-false _))
+    (ap (λ b. is_leasable rules row.range && not b)
+    (any-push (λ other. same_range other.range row.range) rows row ∙ ap (λ c. list_any (λ other. same_range other.range row.range) rows || c) (same_refl row.range) ∙ or-true _)
+    ∙ and-false (is_leasable rules row.range))
+    rule free free2 h is
 
 pub stored-leave : (rules : LeaseRules) (rows rows2 : List Row) (x : Range) (rule : Ip4 → Option MachineRule) (free free2 : Ip4 → Option (List Bool)) → IsStored rules rows rule free
     → is_leasable rules x ≡ true
@@ -186,9 +186,9 @@ pub stored-leave : (rules : LeaseRules) (rows rows2 : List Row) (x : Range) (rul
     → IsStored rules rows2 rule free2
 stored-leave rules rows rows2 x rule free free2 h some gone is =
     stored-set rules rows rows2 x true (x.start / 8) (leasable-start rules x some)
-      (λ r other. ap (λ b. is_leasable rules r && b) (gone r ∙ ap (λ b. b || has_no_row rows r) other))
-      (ap (λ b. is_leasable rules x && b) (gone x ∙ ap (λ b. b || has_no_row rows x) (same_refl x)) ∙ and-true (is_leasable rules x) ∙ some)
-      rule free free2 h is
+    (λ r other. ap (λ b. is_leasable rules r && b) (gone r ∙ ap (λ b. b || has_no_row rows r) other))
+    (ap (λ b. is_leasable rules x && b) (gone x ∙ ap (λ b. b || has_no_row rows x) (same_refl x)) ∙ and-true (is_leasable rules x) ∙ some)
+    rule free free2 h is
 
 -- a row on a range that isn't leasable leaves
 pub stored-stay : (rules : LeaseRules) (rows rows2 : List Row) (x : Range) (rule : Ip4 → Option MachineRule) (free : Ip4 → Option (List Bool)) → IsStored rules rows rule free
@@ -197,10 +197,10 @@ pub stored-stay : (rules : LeaseRules) (rows rows2 : List Row) (x : Range) (rule
     → IsStored rules rows2 rule free
 stored-stay rules rows rows2 x rule free h none gone =
     stored-same rules rows rows2 rule free
-      (λ r. by_test (same_range x r)
-        (λ hit. let here : is_leasable rules r ≡ false = subst (λ (y : Range). is_leasable rules y ≡ false) (range_is x r hit) none in rw here refl)
-        (λ miss. ap (λ b. is_leasable rules r && b) (gone r ∙ ap (λ b. b || has_no_row rows r) miss)))
-      h
+    (λ r. by_test (same_range x r)
+    (λ hit. let here : is_leasable rules r ≡ false = subst (λ (y : Range). is_leasable rules y ≡ false) (range_is x r hit) none in rw here refl)
+    (λ miss. ap (λ b. is_leasable rules r && b) (gone r ∙ ap (λ b. b || has_no_row rows r) miss)))
+    h
 
 -- ---- the rules grow
 
@@ -218,13 +218,13 @@ pub stored-machine : (rules : LeaseRules) (rule : MachineRule) (machines : List 
     → IsStored (record rules { machines = machines }) rows ruled2 free
 stored-machine rules rule machines rows ruled ruled2 free h new is each = record {
   machines = λ m.
-    let all = ap (find (λ r. r.machine.0 == m.0)) is ∙ find-append (λ r. r.machine.0 == m.0) rules.machines (rule ∷ []) in
-    by_test (same_address rule.machine m)
+      let all = ap (find (λ r. r.machine.0 == m.0)) is ∙ find-append (λ r. r.machine.0 == m.0) rules.machines (rule ∷ []) in
+      by_test (same_address rule.machine m)
       (λ hit.
-        let none = subst (λ (x : Ip4). rule_of rules x ≡ None) (address_is rule.machine m hit) new in
-        (rw hit at (each m)) ∙ sym (all ∙ ap (λ o. option_or o (cond (rule.machine.0 == m.0) (Some rule) None)) none ∙ ap (λ b. cond b (Some rule) None) hit))
+      let none = subst (λ (x : Ip4). rule_of rules x ≡ None) (address_is rule.machine m hit) new in
+      (rw hit at (each m)) ∙ sym (all ∙ ap (λ o. option_or o (cond (rule.machine.0 == m.0) (Some rule) None)) none ∙ ap (λ b. cond b (Some rule) None) hit))
       (λ miss.
-        (rw miss at (each m)) ∙ h.machines m ∙ sym (all ∙ ap (λ b. option_or (rule_of rules m) (cond b (Some rule) None)) miss ∙ or_none (rule_of rules m)));
+      (rw miss at (each m)) ∙ h.machines m ∙ sym (all ∙ ap (λ b. option_or (rule_of rules m) (cond b (Some rule) None)) miss ∙ or_none (rule_of rules m)));
   vips = λ vip. more_machines rules machines rows vip (free vip) (h.vips vip);
 }
 
@@ -236,10 +236,10 @@ more_vips rules rule vips rows vip (Some flags) is other h = record {
   named = ap (list_any (λ r. r.vip.0 == vip.0)) is ∙ list_any-append (λ r. r.vip.0 == vip.0) rules.vips (rule ∷ []) ∙ rw (h.named) refl;
   count = h.count;
   each = λ k within.
-    let p = λ (r : VipRule). (r.vip.0 == vip.0) && allows r (8 * k) in
-    let last : list_any p (rule ∷ []) ≡ false = rw other refl in
-    let leasable : list_any p vips ≡ list_any p rules.vips = ap (list_any p) is ∙ list_any-append p rules.vips (rule ∷ []) ∙ ap (λ b. list_any p rules.vips || b) last ∙ or-false (list_any p rules.vips) in
-    h.each k within ∙ sym (ap (λ b. b && has_no_row rows (range_at vip (8 * k))) leasable);
+      let p = λ (r : VipRule). (r.vip.0 == vip.0) && allows r (8 * k) in
+      let last : list_any p (rule ∷ []) ≡ false = rw other refl in
+      let leasable : list_any p vips ≡ list_any p rules.vips = ap (list_any p) is ∙ list_any-append p rules.vips (rule ∷ []) ∙ ap (λ b. list_any p rules.vips || b) last ∙ or-false (list_any p rules.vips) in
+      h.each k within ∙ sym (ap (λ b. b && has_no_row rows (range_at vip (8 * k))) leasable);
 }
 
 pub stored-vip : (rules : LeaseRules) (rule : VipRule) (vips : List VipRule) (flags : List Bool) (rows : List Row) (ruled : Ip4 → Option MachineRule) (free free2 : Ip4 → Option (List Bool))
@@ -249,8 +249,8 @@ pub stored-vip : (rules : LeaseRules) (rule : VipRule) (vips : List VipRule) (fl
 stored-vip rules rule vips flags rows ruled free free2 h is new each = record {
   machines = h.machines;
   vips = λ vip. by_test (same_address rule.vip vip)
-    (λ hit. let now = rw hit at (each vip) in rw now (subst (λ (v : Ip4). AreFree (record rules { vips = vips }) rows v flags) (address_is rule.vip vip hit) new))
-    (λ miss. let now = rw miss at (each vip) in rw now (more_vips rules rule vips rows vip (free vip) is miss (h.vips vip)));
+      (λ hit. let now = rw hit at (each vip) in rw now (subst (λ (v : Ip4). AreFree (record rules { vips = vips }) rows v flags) (address_is rule.vip vip hit) new))
+      (λ miss. let now = rw miss at (each vip) in rw now (more_vips rules rule vips rows vip (free vip) is miss (h.vips vip)));
 }
 
 -- the rules that are indexed so far, and one more
@@ -260,4 +260,4 @@ pub found_more : (rules : List MachineRule) (i : ℕ) (d : MachineRule) (m : Ip4
     → now ≡ find (λ r. r.machine.0 == m.0) (take (i + 1) rules)
 found_more rules i d m was now within is so_far =
     is ∙ ap (λ o. option_or o (if same_address (get_or rules i d).machine m then Some (get_or rules i d) else None)) so_far
-      ∙ sym (ap (find (λ r. r.machine.0 == m.0)) (take_more rules i d within) ∙ find-append (λ r. r.machine.0 == m.0) (take i rules) (get_or rules i d ∷ []))
+    ∙ sym (ap (find (λ r. r.machine.0 == m.0)) (take_more rules i d within) ∙ find-append (λ r. r.machine.0 == m.0) (take i rules) (get_or rules i d ∷ []))

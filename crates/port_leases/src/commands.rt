@@ -89,7 +89,14 @@ fn up(store: &mut Store, agent: u16, boot: u64, effects: &mut Effects)
 }
 
 /// A request that has an effect.
-fn request(store: &mut Store, place: u64, boot: u64, rule: MachineRule, seq: u64, effects: &mut Effects)
+fn request(
+    store: &mut Store,
+    place: u64,
+    boot: u64,
+    rule: MachineRule,
+    seq: u64,
+    effects: &mut Effects,
+)
     requires room { 2 < store.old.room }
     requires next { store.old.next ≤ place }
     requires effects { length (next (raise_known rule.agent boot store.old.leases) (decide store.old.rules place boot rule seq)).effects ≤ effects.old.room }
@@ -104,7 +111,15 @@ fn request(store: &mut Store, place: u64, boot: u64, rule: MachineRule, seq: u64
 
 /// An agent asks for a range for a machine.
 #[tactic(auto, unfolding(lease_spec::specs::Table::reserve))]
-fn reserve(store: &mut Store, place: u64, agent: u16, boot: u64, machine: Ip4, seq: u64, effects: &mut Effects)
+fn reserve(
+    store: &mut Store,
+    place: u64,
+    agent: u16,
+    boot: u64,
+    machine: Ip4,
+    seq: u64,
+    effects: &mut Effects,
+)
     requires room { 2 < store.old.room }
     requires next { store.old.next ≤ place }
     requires effects { length (reserve store.old.rules place agent boot seq (rule_of store.old.rules machine) store.old.leases).effects ≤ effects.old.room }
@@ -115,7 +130,10 @@ fn reserve(store: &mut Store, place: u64, agent: u16, boot: u64, machine: Ip4, s
     let Some(rule) = store.rule_of(machine) else {
         return;
     };
-    if rule.agent == agent && store.known_boot(agent) <= boot && store.is_later(rule.machine, boot, seq) {
+    if rule.agent == agent
+        && store.known_boot(agent) <= boot
+        && store.is_later(rule.machine, boot, seq)
+    {
         request(store, place, boot, rule, seq, effects);
     }
 }

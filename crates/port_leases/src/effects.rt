@@ -15,7 +15,6 @@ pub struct Effects {
 
 impl Model for Effects {
     ghost use Rattle.std.specs.Prelude.{◌-◌, vec_len, vec_capacity};
-
     ghost use Rattle.port_leases.specs.Effects.{Told};
 
     ghost Value = { Told };

@@ -22,7 +22,6 @@ pub struct NumberedRows {
 
 impl Model for NumberedRows {
     ghost use Rattle.std.specs.Prelude.{◌-◌, vec_len, vec_capacity};
-
     ghost use Rattle.port_leases.specs.Entries.{IsCounted, Numbered, live_rows, next_number};
 
     ghost Value = { Numbered };

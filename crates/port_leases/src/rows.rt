@@ -27,13 +27,9 @@ pub struct Rows {
 
 impl Model for Rows {
     ghost use Rattle.std.specs.Prelude.{min};
-
     ghost use Rattle.indexmap.specs.IndexMap.{get, spare};
-
     ghost use Rattle.lease_spec.specs.Free.{same_range};
-
     ghost use Rattle.port_leases.specs.Entries.{Numbered};
-
     ghost use Rattle.port_leases.specs.Rows.{IsIndexed, same_address};
 
     ghost Value = { Numbered };

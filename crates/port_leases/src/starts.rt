@@ -18,7 +18,6 @@ pub struct Starts {
 
 impl Model for Starts {
     ghost use Rattle.std.specs.Prelude.{Bool, List};
-
     ghost use Rattle.port_leases.specs.Starts.{IsSummary};
 
     ghost Value = { List Bool };

@@ -38,11 +38,8 @@ pub struct Store {
 
 impl Model for Store {
     ghost use Rattle.std.specs.Prelude.{min};
-
     ghost use Rattle.indexmap.specs.IndexMap.{get, spare};
-
     ghost use Rattle.port_leases.specs.Rows.{same_address};
-
     ghost use Rattle.port_leases.specs.Store.{IsStored, StoreState, known_of, lasts_of};
 
     ghost Value = { StoreState };
@@ -90,7 +87,10 @@ fn put_rule(machines: &mut IndexMap<Ip4, MachineRule>, rule: MachineRule) -> Res
 }
 
 /// The machines by their addresses.
-fn index_machines(alloc: Global, rules: &[MachineRule]) -> Result<IndexMap<Ip4, MachineRule>, NoMemory>
+fn index_machines(
+    alloc: Global,
+    rules: &[MachineRule],
+) -> Result<IndexMap<Ip4, MachineRule>, NoMemory>
     ensures { IfOk result (λ machines. (m : ip.Ip4) → get same_address machines m ≡ find (λ rule. rule.machine.0 == m.0) rules.now) }
 {
     let mut machines = IndexMap::new(alloc);
@@ -114,17 +114,19 @@ fn fill(starts: &mut Starts, rules: &LeaseRules, rows: &Rows, vip: Ip4)
     ensures { AreFree rules.now rows.now.rows vip starts.new }
 {
     for i in 0..8192u16 {
-        let free = is_free(
-            rules,
-            rows,
-            Range { vip, start: 8 * i },
-        );
+        let free = is_free(rules, rows, Range { vip, start: 8 * i });
         starts.set(usize::from(i), free);
     }
 }
 
 /// A VIP's free starts, where the VIP has none yet.
-fn put_starts(alloc: Global, vips: &mut IndexMap<Ip4, Starts>, rules: &LeaseRules, rows: &Rows, vip: Ip4) -> Result<(), NoMemory>
+fn put_starts(
+    alloc: Global,
+    vips: &mut IndexMap<Ip4, Starts>,
+    rules: &LeaseRules,
+    rows: &Rows,
+    vip: Ip4,
+) -> Result<(), NoMemory>
     requires named { has_vip rules.now vip ≡ true }
     requires free { IfSome (get same_address vips.old vip) (AreFree rules.now rows.now.rows vip) }
     ensures here { OnOk result (IsSomeAnd (get same_address vips.new vip) (AreFree rules.now rows.now.rows vip)) }
@@ -140,7 +142,11 @@ fn put_starts(alloc: Global, vips: &mut IndexMap<Ip4, Starts>, rules: &LeaseRule
 }
 
 /// The free starts of each VIP.
-fn index_vips(alloc: Global, rules: &LeaseRules, rows: &Rows) -> Result<IndexMap<Ip4, Starts>, NoMemory>
+fn index_vips(
+    alloc: Global,
+    rules: &LeaseRules,
+    rows: &Rows,
+) -> Result<IndexMap<Ip4, Starts>, NoMemory>
     ensures { IfOk result (λ vips. (v : ip.Ip4) → IsFreeOf rules.now rows.now.rows v (get same_address vips v)) }
 {
     let mut vips = IndexMap::new(alloc);

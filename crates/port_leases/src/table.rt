@@ -21,7 +21,6 @@ pub struct Table {
 
 impl Model for Table {
     ghost use Rattle.port_leases.specs.TableState.{TableState};
-
     ghost use Rattle.std.specs.Prelude.{◌≤◌, ◌+◌, ◌*◌};
 
     ghost Value = { TableState };

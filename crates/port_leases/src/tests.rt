@@ -7,7 +7,9 @@ use wire_core::{
 };
 
 const VIP: Ip4 = Ip4(0xc000_020a);
+
 const A: Ip4 = Ip4(0x0a01_0004);
+
 const B: Ip4 = Ip4(0x0a01_0005);
 
 /// The value of one Granted command: mux 0 in its boot 1 has the row of lease 1.
@@ -75,7 +77,13 @@ fn apply(table: &mut Table, out: &mut String, value: &Value) -> Result<(), Fail>
 }
 
 /// One slot in which agent 0 asks for a range for the machine.
-fn reserve(alloc: Global, table: &mut Table, out: &mut String, machine: Ip4, seq: u64) -> Result<(), Fail> {
+fn reserve(
+    alloc: Global,
+    table: &mut Table,
+    out: &mut String,
+    machine: Ip4,
+    seq: u64,
+) -> Result<(), Fail> {
     let command = Command::Reserve {
         agent: 0,
         boot: 1,

@@ -7,4 +7,4 @@ use Rattle.plain_schedule.proofs.connections.put.Goals as goal
 pub returns : goal.returns
 returns c k =
     subst (λ (eq : FlowKey → FlowKey → Bool). get eq c.insert.new.self k ≡ (if eq c.args.key k then Some c.args.connection else get eq c.args.map.now k)) key_eq_is
-      ((rw c.unwrap.ensures at c.insert.ensures.updates).0 k)
+    ((rw c.unwrap.ensures at c.insert.ensures.updates).0 k)

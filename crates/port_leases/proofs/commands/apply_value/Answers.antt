@@ -8,7 +8,7 @@ pub loop-i-init : goal.loop-i-init
 loop-i-init c = record {
   rules = refl;
   going = going_start _ c.args.store.now.rules c.args.place (c.args.place + 0) c.args.value.now c.args.store.now.leases c.args.effects.now.effects c.args.effects.now.room (omega arith) refl refl
-    c.requires.effects;
+      c.requires.effects;
   next = omega (arith, c.requires.next);
   room = c.requires.room;
 }

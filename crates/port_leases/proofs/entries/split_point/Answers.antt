@@ -7,5 +7,5 @@ use Rattle.port_leases.proofs.entries.split_point.Goals as goal
 pub returns : goal.returns
 returns c =
     split_below c.args.n c.args.entries.now c.partition_point.result c.partition_point.ensures.bound
-      (IsPartitionPoint-from_clause (λ (e : Entry). nat_lt e.row.n c.args.n) c.args.entries.now c.partition_point.result c.partition_point.ensures.partitioned
-        (IsPartitionedBy-ltb (λ (e : Entry). e.row.n) c.args.entries.now c.args.n (ascend_by c.args.entries.now c.requires)) (λ a r q k. search rules))
+    (IsPartitionPoint-from_clause (λ (e : Entry). nat_lt e.row.n c.args.n) c.args.entries.now c.partition_point.result c.partition_point.ensures.partitioned
+    (IsPartitionedBy-ltb (λ (e : Entry). e.row.n) c.args.entries.now c.args.n (ascend_by c.args.entries.now c.requires)) (λ a r q k. search rules))

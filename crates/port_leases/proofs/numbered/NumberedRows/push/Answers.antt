@@ -14,7 +14,7 @@ pub invariant_of-self : goal.invariant_of-self
 invariant_of-self c =
     let next : next_number c.self.inside.entries.items ≤ c.args.row.n = let is = ap (λ (v : Numbered). v.next) c.self.view_is in rw is c.requires.next in
     subst (λ es. IsCounted es (c.self.inside.live + 1)) (sym c.push_reserved.ensures.items)
-      (counted-push c.self.inside.entries.items c.args.row c.self.inside.live c.self.invariant next)
+    (counted-push c.self.inside.entries.items c.args.row c.self.inside.live c.self.invariant next)
 
 pub returns-clause-rows : goal.returns-clause-rows
 returns-clause-rows c =

@@ -21,12 +21,12 @@ invariant_of-self-else-self-len c =
 pub returns-then-self-len-clause-rows : goal.returns-then-self-len-clause-rows
 returns-then-self-len-clause-rows c =
     ap live_rows c.compact.ensures.entries ∙ live_rows-filter c.bury.new.entries.items ∙ ap live_rows c.bury.ensures.entries
-      ∙ live_rows-bury c.args.n c.self.inside.entries.items ∙ ap (λ (v : Numbered). filter (λ row. not (row.n == c.args.n)) v.rows) c.self.view_is
+    ∙ live_rows-bury c.args.n c.self.inside.entries.items ∙ ap (λ (v : Numbered). filter (λ row. not (row.n == c.args.n)) v.rows) c.self.view_is
 
 pub returns-else-self-len-clause-rows : goal.returns-else-self-len-clause-rows
 returns-else-self-len-clause-rows c =
     ap live_rows c.bury.ensures.entries ∙ live_rows-bury c.args.n c.self.inside.entries.items
-      ∙ ap (λ (v : Numbered). filter (λ row. not (row.n == c.args.n)) v.rows) c.self.view_is
+    ∙ ap (λ (v : Numbered). filter (λ row. not (row.n == c.args.n)) v.rows) c.self.view_is
 
 pub returns-then-self-len-clause-next : goal.returns-then-self-len-clause-next
 returns-then-self-len-clause-next c =

@@ -9,4 +9,4 @@ use Rattle.port_leases.proofs.rows.Rows.clear_lower.Goals as goal
 pub invariant_of-self : goal.invariant_of-self
 invariant_of-self c =
     subst (λ rows. IsIndexed rows (get same_range c.self.inside.numbers) (get same_address c.self.inside.counts)) (sym c.clear_lower.ensures.rows)
-      (indexed-map (cleared c.args.agent c.args.boot) (λ row. grind arith) (λ row. grind arith) (λ row. grind arith) c.self.inside.rows.rows _ _ c.self.invariant)
+    (indexed-map (cleared c.args.agent c.args.boot) (λ row. grind arith) (λ row. grind arith) (λ row. grind arith) c.self.inside.rows.rows _ _ c.self.invariant)

@@ -10,4 +10,4 @@ pub invariant_of-self : goal.invariant_of-self
 invariant_of-self c =
     let free = subst (λ (v : Numbered). has_no_row v.rows c.args.row.range ≡ true) (sym c.self.view_is) c.requires.free in
     subst (λ rows. IsIndexed rows (get same_range c.put_number.new.numbers) (get same_address c.count_up.new.counts)) (sym c.push.ensures.rows)
-      (indexed-push c.self.inside.rows.rows c.args.row _ _ _ _ c.self.invariant free c.put_number.ensures.number c.count_up.ensures.count)
+    (indexed-push c.self.inside.rows.rows c.args.row _ _ _ _ c.self.invariant free c.put_number.ensures.number c.count_up.ensures.count)

@@ -16,11 +16,11 @@ pub invariant_of-self : goal.invariant_of-self
 invariant_of-self c =
     let there = subst (λ (v : Numbered). row_at v.rows c.args.row.now.n ≡ Some c.args.row.now) (sym c.self.view_is) c.requires in
     subst (λ rows. IsIndexed rows (get same_range c.drop_number.new.numbers) (get same_address c.count_down.new.counts)) (sym c.remove.ensures.rows)
-      (indexed-without c.self.inside.rows.rows c.args.row.now _ _ _ _ c.self.invariant c.remove.ensures.ascend there c.drop_number.ensures.number c.count_down.ensures.count)
+    (indexed-without c.self.inside.rows.rows c.args.row.now _ _ _ _ c.self.invariant c.remove.ensures.ascend there c.drop_number.ensures.number c.count_down.ensures.count)
 
 pub returns-clause-free : goal.returns-clause-free
 returns-clause-free c = λ r.
     let there = subst (λ (v : Numbered). row_at v.rows c.args.row.now.n ≡ Some c.args.row.now) (sym c.self.view_is) c.requires in
     ap (λ rows. has_no_row rows r) c.remove.ensures.rows
-      ∙ free-without c.self.inside.rows.rows c.args.row.now c.remove.ensures.ascend there c.self.invariant.single r
-      ∙ ap (λ (v : Numbered). same_range c.args.row.now.range r || has_no_row v.rows r) c.self.view_is
+    ∙ free-without c.self.inside.rows.rows c.args.row.now c.remove.ensures.ascend there c.self.invariant.single r
+    ∙ ap (λ (v : Numbered). same_range c.args.row.now.range r || has_no_row v.rows r) c.self.view_is

@@ -9,5 +9,5 @@ use Rattle.port_leases.proofs.rows.Rows.set_phase.Goals as goal
 pub invariant_of-self : goal.invariant_of-self
 invariant_of-self c =
     subst (λ rows. IsIndexed rows (get same_range c.self.inside.numbers) (get same_address c.self.inside.counts)) (sym c.set_phase.ensures.rows)
-      (indexed-map (λ row. if row.n == c.args.n then at_phase c.args.phase row else row) (λ row. grind arith) (λ row. grind arith) (λ row. grind arith)
-        c.self.inside.rows.rows _ _ c.self.invariant)
+    (indexed-map (λ row. if row.n == c.args.n then at_phase c.args.phase row else row) (λ row. grind arith) (λ row. grind arith) (λ row. grind arith)
+    c.self.inside.rows.rows _ _ c.self.invariant)

@@ -7,7 +7,7 @@ pub first_start-requires-clause-found : goal.first_start-requires-clause-found
 first_start-requires-clause-found c =
     let some = sym (ap (first_flag 512 0) c.deref.ensures.value) ∙ sym c.first.ensures ∙ c.in-Some.is in
     subst (λ flags. IsFound flags 0 c.in-Some.place) (sym c.deref-in-Some.ensures.value)
-      (found 64 512 0 c.in-Some.place c.self.inside.blocks.items c.self.inside.free.items refl c.self.invariant.sums some)
+    (found 64 512 0 c.in-Some.place c.self.inside.blocks.items c.self.inside.free.items refl c.self.invariant.sums some)
 
 pub returns-in-None : goal.returns-in-None
 returns-in-None c =

@@ -8,4 +8,4 @@ pub invariant_of-self-2 : goal.invariant_of-self-2
 invariant_of-self-2 c =
     let updates = rw c.unwrap.ensures at c.insert.ensures.updates in
     stored-vip c.self.inside.rules c.args.rule c.push.new.self c.fill.new.starts c.self.inside.rows.rows _ _ _ c.self.invariant c.in_ok-push.ensures.ok c.fill.ensures
-      (λ v. updates.0 v ∙ ap (λ es. if same_address c.args.rule.vip v then Some c.fill.new.starts else lookup (same_address v) es) c.reserve.ensures.entries)
+    (λ v. updates.0 v ∙ ap (λ es. if same_address c.args.rule.vip v then Some c.fill.new.starts else lookup (same_address v) es) c.reserve.ensures.entries)

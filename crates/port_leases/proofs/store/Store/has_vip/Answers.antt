@@ -9,5 +9,5 @@ use Rattle.port_leases.proofs.store.Store.has_vip.Goals as goal
 pub returns : goal.returns
 returns c =
     c.contains_key.ensures
-      ∙ named-free c.self.inside.rules c.self.inside.rows.rows c.args.vip (get same_address c.self.inside.vips c.args.vip) (c.self.invariant.vips c.args.vip)
-      ∙ ap (λ (v : StoreState). has_vip v.rules c.args.vip) c.self.view_is
+    ∙ named-free c.self.inside.rules c.self.inside.rows.rows c.args.vip (get same_address c.self.inside.vips c.args.vip) (c.self.invariant.vips c.args.vip)
+    ∙ ap (λ (v : StoreState). has_vip v.rules c.args.vip) c.self.view_is

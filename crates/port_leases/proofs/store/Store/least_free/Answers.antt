@@ -20,5 +20,5 @@ returns-in-None-clause-range c =
 pub returns-in-Some-clause-free : goal.returns-in-Some-clause-free
 returns-in-Some-clause-free c =
     let free = first-free c.self.inside.rules c.self.inside.rows.rows c.args.vip (get same_address c.self.inside.vips c.args.vip) c.in-Some.start (c.self.invariant.vips c.args.vip)
-        (sym c.first_free.ensures ∙ c.in-Some.is) in
+    (sym c.first_free.ensures ∙ c.in-Some.is) in
     subst (λ (v : StoreState). is_free v.rules v.leases.rows (range_at c.args.vip c.in-Some.start) ≡ true) c.self.view_is free

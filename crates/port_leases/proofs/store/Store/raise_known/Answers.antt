@@ -9,5 +9,5 @@ use Rattle.port_leases.proofs.store.Store.raise_known.Goals as goal
 pub invariant_of-self : goal.invariant_of-self
 invariant_of-self c =
     subst (λ rows. IsStored c.self.inside.rules rows (get same_address c.self.inside.machines) (get same_address c.self.inside.vips)) (sym c.clear_lower.ensures.rows)
-      (stored-same c.self.inside.rules c.self.inside.rows.rows _ _ _
-        (free-map (cleared c.args.agent c.args.boot) (λ row. grind arith) c.self.inside.rules c.self.inside.rows.rows) c.self.invariant)
+    (stored-same c.self.inside.rules c.self.inside.rows.rows _ _ _
+    (free-map (cleared c.args.agent c.args.boot) (λ row. grind arith) c.self.inside.rules c.self.inside.rows.rows) c.self.invariant)

@@ -10,4 +10,4 @@ pub invariant_of-self : goal.invariant_of-self
 invariant_of-self c =
     let free = subst (λ (v : StoreState). is_free v.rules v.leases.rows c.args.row.range ≡ true) (sym c.self.view_is) c.requires.free in
     subst (λ rows. IsStored c.self.inside.rules rows (get same_address c.self.inside.machines) (get same_address c.set_free.new.vips)) (sym c.push.ensures.rows)
-      (stored-take c.self.inside.rules c.self.inside.rows.rows c.args.row _ _ _ c.self.invariant free c.set_free.ensures)
+    (stored-take c.self.inside.rules c.self.inside.rows.rows c.args.row _ _ _ c.self.invariant free c.set_free.ensures)
