@@ -38,3 +38,48 @@ fn lines_that_are_none(rt: HostRuntime) -> Result<(), Fail> {
     }
     Ok(())
 }
+
+#[test]
+fn a_packet_and_its_reply(rt: HostRuntime) -> Result<(), Fail> {
+    let Ok(lines) = plain_lines(
+        rt.alloc(),
+        b"plain\nvip 192.0.2.10 1024 1039\nask 192.0.2.10 10.1.0.4\npacket 4500001e000100004011468f0a010004c633640713880035000a4f746869\nreply 4500001e0002000038119688c6336407c000020a00350400000a9ff46f6b\nreturn 1\nreply 4500001e0002000038119688c6336407c000020a00350400000a9ff46f6b",
+    ) else {
+        return Err(Fail::from("refused"));
+    };
+    assert_eq!(rt;
+        lines.as_bytes(),
+        b"leased 1 1024\npublic 4500001e0001000040118e89c000020ac633640704000035000aa6f66869\nmachine 10.1.0.4 4500001e0002000037114f8ec63364070a01000400351388000a48726f6b\nfreed 1\ndrop NoConnection\n".as_slice()
+    );
+    Ok(())
+}
+
+#[test]
+fn one_port_for_two_remote_ends(rt: HostRuntime) -> Result<(), Fail> {
+    let Ok(lines) = plain_lines(
+        rt.alloc(),
+        b"plain\nvip 192.0.2.10 1024 1039\nask 192.0.2.10 10.1.0.4\npacket 4500001e000100004011468f0a010004c633640713880035000a00006869\npacket 4500001e000200004011468d0a010004c633640813880035000a00006869\npacket 4500001e000300004011468d0a010004c633640713890035000a00006869",
+    ) else {
+        return Err(Fail::from("refused"));
+    };
+    assert_eq!(rt;
+        lines.as_bytes(),
+        b"leased 1 1024\npublic 4500001e0001000040118e89c000020ac633640704000035000a00006869\npublic 4500001e0002000040118e87c000020ac633640804000035000a00006869\npublic 4500001e0003000040118e87c000020ac633640704010035000a00006869\n".as_slice()
+    );
+    Ok(())
+}
+
+#[test]
+fn packets_that_are_dropped(rt: HostRuntime) -> Result<(), Fail> {
+    let Ok(lines) = plain_lines(
+        rt.alloc(),
+        b"plain\nvip 192.0.2.10 1024 1039\nask 192.0.2.10 10.1.0.4\npacket 4500001e000100004011468f0a010004c633640713880035000a4f756869\npacket 4500001e00090000401146820a010009c633640713880035000a00006869\npacket 45",
+    ) else {
+        return Err(Fail::from("refused"));
+    };
+    assert_eq!(rt;
+        lines.as_bytes(),
+        b"leased 1 1024\ndrop BadSum\ndrop NotMine\ndrop IpShort\n".as_slice()
+    );
+    Ok(())
+}
