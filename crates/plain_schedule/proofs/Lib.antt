@@ -2,4 +2,9 @@ pub mod FreePorts
 pub mod Keys
 pub mod LineByLine
 pub mod LinesAndEffects
+pub mod KeyLaws
+pub mod ListLaws
+pub mod Kept
+pub mod Openings
+pub mod PortLines
 pub mod SafetyLaws

@@ -1,10 +1,5 @@
 -- One line after the other.
-use Rattle.std.proofs.Common.{◌≡◌, ℕ, suc, ◌+◌, ◌<◌, ◌≤◌, List, [], ◌∷◌, ◌++◌, length, Option, None, Some, Result, Ok, Err, refl, sym, ap, subst, ◌∙◌, append_assoc, append-nil, arith, rules}
-use Rattle.std.specs.Prelude.{IsSome}
-use Rattle.std.specs.Option.{option_copied}
-use Rattle.std.proofs.lemmas.List.Splits.{length-slice_split}
-use Rattle.address_text.specs.Fields.{parts, parts_of}
-use Rattle.plain_schedule.specs.Lines.{line_of}
+use Rattle.std.proofs.Common.{◌≡◌, ℕ, ◌+◌, List, [], ◌∷◌, ◌++◌, Option, None, Some, Result, Ok, Err, refl, sym, ap, subst, ◌∙◌, append_assoc, append-nil}
 use Rattle.plain_schedule.specs.Schedule.{Plain, line_step, onto, printed, and_then, lines_from}
 
 abbrev pub ok : List ℕ → Result (List ℕ) ℕ

@@ -6,7 +6,7 @@ use Rattle.std.specs.Fmt.{decimal}
 use Rattle.wire_core.specs.declared.address.Ip4.{Ip4}
 use Rattle.wire_core.specs.declared.rules.VipRule.{VipRule}
 use Rattle.wire_core.specs.declared.rules.MachineRule.{MachineRule}
-use Rattle.wire_core.specs.Commands.{LogCommand, Reserve, Release, Freed}
+use Rattle.wire_core.specs.Commands.{Reserve, Release, Freed}
 use Rattle.lease_spec.specs.declared.row.Row.{Row}
 use Rattle.lease_spec.specs.declared.effect.Effect.{Effect}
 use Rattle.lease_spec.specs.declared.effect.Effect.TheVariants as effect

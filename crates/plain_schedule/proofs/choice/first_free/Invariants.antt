@@ -1,4 +1,4 @@
-use Rattle.std.proofs.Common.{◌≡◌, ℕ, find, length}
+use Rattle.std.proofs.Common.{◌≡◌, find, length}
 use Rattle.std.specs.List.{flat_map}
 use Rattle.port_leases.specs.TableState.{rows_of}
 use Rattle.plain_schedule.specs.Packets.{eight, first_free, is_free}

@@ -1,4 +1,4 @@
-use Rattle.std.proofs.Common.{◌≡◌, ◌∙◌, sym, ap, Bool, true, false, Some, Option, subst}
+use Rattle.std.proofs.Common.{◌≡◌, ◌∙◌, sym, ap, true, false, Some}
 use Rattle.plain_schedule.specs.declared.connections.Connection.{Connection}
 use Rattle.plain_schedule.specs.Packets.{is_free, through, with_public}
 use Rattle.plain_schedule.proofs.FreePorts.{first_place, free_is, later_place}

@@ -1,4 +1,4 @@
-use Rattle.std.proofs.Common.{◌≡◌, ◌≤◌, ℕ, drop, find, map}
+use Rattle.std.proofs.Common.{◌≡◌, drop, find, map}
 use Rattle.plain_schedule.specs.Packets.{eight, is_free, places, through}
 use Rattle.plain_schedule.proofs.choice.free_in.Given as goal
 

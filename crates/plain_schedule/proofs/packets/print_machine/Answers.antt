@@ -1,5 +1,3 @@
-use Rattle.std.proofs.Common.{◌≡◌, ◌++◌, List, ℕ, OnOk, string_bytes, ap, sym, ◌∙◌}
-use Rattle.plain_schedule.specs.Packets.{machine_text}
 use Rattle.plain_schedule.proofs.packets.print_machine.Goals as goal
 
 pub returns-in_ok-address-in-Ok : goal.returns-in_ok-address-in-Ok

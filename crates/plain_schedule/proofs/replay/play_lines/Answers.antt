@@ -1,4 +1,4 @@
-use Rattle.std.proofs.Common.{◌≡◌, ◌+◌, ◌≤◌, List, ℕ, Result, length, ap, ◌∙◌, sym, arith, subst, [], string_bytes}
+use Rattle.std.proofs.Common.{◌≡◌, List, ℕ, Result, sym, arith, subst, string_bytes}
 use Rattle.std.proofs.Common.{Ok, Err, String}
 use Rattle.std.specs.Result.{IsErrAnd}
 use Rattle.std.specs.declared.alloc.Global.{Global}

@@ -1,4 +1,4 @@
-use Rattle.std.proofs.Common.{◌≡◌, ◌∙◌, ◌++◌, List, ℕ, take, get_or, ap, sym, append_assoc, string_bytes}
+use Rattle.std.proofs.Common.{◌≡◌, ◌∙◌, ◌++◌, List, ℕ, take, ap, sym, append_assoc, string_bytes}
 use Rattle.std.specs.List.{flat_map}
 use Rattle.plain_schedule.specs.Schedule.{effect_text}
 use Rattle.plain_schedule.proofs.LinesAndEffects.{texts_more}
