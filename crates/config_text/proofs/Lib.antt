@@ -1,2 +1,3 @@
+mod Json
 mod Lists
 mod Unlisted

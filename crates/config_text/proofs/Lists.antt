@@ -1,11 +1,9 @@
 -- Lists of values, read from the first to the last.
-use Rattle.std.proofs.Common.{◌≡◌, ℕ, suc, List, [], ◌∷◌, ◌++◌, length, map, Result, Ok, Err, refl, sym, ap, ◌∙◌, append_assoc, append-nil}
-use Rattle.serde_json.specs.Data.{Data, Items, no_items, item}
+use Rattle.std.proofs.Common.{◌≡◌, suc, List, [], ◌∷◌, ◌++◌, length, Result, Ok, Err, refl, sym, ap, append_assoc}
 use Rattle.serde_json.specs.Events.{items_len}
-use Rattle.serde_json.specs.View.{view, items_view}
+use Rattle.serde_json.specs.View.{items_view}
 use Rattle.serde_json.specs.declared.value.Value.{Value}
 use Rattle.config_text.specs.Faults.{Fault, ◌>>=◌}
-use Rattle.config_text.specs.Members.{At, each, item_path}
 
 pub values_counted : (vs : List Value) → items_len (items_view vs) ≡ length vs
 values_counted [] = refl

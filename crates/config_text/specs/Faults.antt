@@ -29,3 +29,8 @@ Fails config_fault.NoMemory read = Unit {0}
 abbrev pub Gives : {A : Type 0} → Result A ConfigFault → Result A Fault → Type 0
 Gives (Ok x) read = read ≡ Ok x
 Gives (Err e) read = Fails e read
+
+-- the same, of what is seen of the answer
+abbrev pub GivesSeen : {A B : Type 0} → (A → B) → Result A ConfigFault → Result B Fault → Type 0
+GivesSeen view (Ok x) read = read ≡ Ok (view x)
+GivesSeen view (Err e) read = Fails e read

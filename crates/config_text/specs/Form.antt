@@ -68,6 +68,9 @@ timers_of o = do
   others ← nothing_but (codes "lead_silent" ∷ codes "mux_silent" ∷ codes "ask_retry" ∷ codes "flow_idle" ∷ codes "range_idle" ∷ []) o
   Ok (record { lead_silent = lead_silent; mux_silent = mux_silent; ask_retry = ask_retry; flow_idle = flow_idle; range_idle = range_idle })
 
+abbrev pub timers_at : At → List ℕ → Result Timers Fault
+timers_at o key = child o key >>= timers_of
+
 -- the whole text: where it is no object, `version` is missing
 unfoldable pub whole_of : At → Result Settings Fault
 whole_of o = do
@@ -78,17 +81,17 @@ whole_of o = do
   agents ← list_at agent_of 1 256 o (codes "agents")
   vips ← list_at vip_of 1 64 o (codes "vips")
   limit ← member_at (number_in 1 1024) o (codes "limit")
-  timers ← child o (codes "timers") >>= timers_of
+  timers ← timers_at o (codes "timers")
   others ← nothing_but (codes "version" ∷ codes "router" ∷ codes "replicas" ∷ codes "muxes" ∷ codes "agents" ∷ codes "vips" ∷ codes "limit" ∷ codes "timers" ∷ []) o
   Ok (record { version = version; router = router; replicas = replicas; muxes = muxes; agents = agents; vips = vips; limit = limit; timers = timers })
 
--- the JSON value that the bytes are
+-- the JSON value (RFC 8259) that the bytes are
 abbrev pub json_of : List ℕ → Option Data
 json_of bytes = if is_utf8 bytes then json_text.read bytes else None
 
-abbrev pub settings_in : Option Data → Result Settings Fault
-settings_in None = Err json
-settings_in (Some d) = whole_of (record { path = None; value = d })
+abbrev pub or_json : Option Data → Result Data Fault
+or_json None = Err json
+or_json (Some d) = Ok d
 
 unfoldable pub settings_of : List ℕ → Result Settings Fault
-settings_of bytes = settings_in (json_of bytes)
+settings_of bytes = or_json (json_of bytes) >>= λ d. whole_of (record { path = None; value = d })

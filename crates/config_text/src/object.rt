@@ -24,9 +24,7 @@ fn is_among(listed: &[&str], key: &str) -> bool
 fn first_unlisted<'a>(members: &'a Map<String, Value>, listed: &[&str]) -> Option<&'a String>
     ensures { option_copied result ≡ find (λ key. not (list_any (λ other. bytes_eq (string_bytes key) other.now) listed.now)) (keys members.now) }
 {
-    members
-        .keys()
-        .find(|key| !is_among(listed, key.as_str()))
+    members.keys().find(|key| !is_among(listed, key.as_str()))
 }
 
 /// The first key of an object that isn't one of these, in byte order.
