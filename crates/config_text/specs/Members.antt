@@ -1,8 +1,10 @@
 -- The members of an object and of a list, each with its path.
 use Rattle.std.specs.Prelude.{ℕ, suc, Bool, not, ◌&&◌, nat_le, List, [], ◌∷◌, ◌++◌, Option, Some, None, option_and_then, Result, Ok, Err, if◌then◌else◌, codes}
 use Rattle.std.specs.Fmt.{decimal}
-use Rattle.std.specs.List.{find, list_any}
+use Rattle.std.specs.Cmp.Lexicographic.{slice_cmp}
+use Rattle.std.specs.List.{filter, list_any}
 use Rattle.std.specs.Option.{option_map}
+use Rattle.std.specs.Ordering.{match_ordering, nat_cmp}
 use Rattle.std.specs.Str.{bytes_eq}
 use Rattle.serde_json.specs.Data.{Data, Items, no_items, item, Members, no_members, member}
 use Rattle.serde_json.specs.Events.{items_len}
@@ -83,9 +85,18 @@ keys_of (member key d ms) = key ∷ keys_of ms
 abbrev pub is_among : List (List ℕ) → List ℕ → Bool
 is_among listed key = list_any (bytes_eq key) listed
 
--- the first key that isn't listed: the members of an object stand in the byte order of their keys
+abbrev pub lesser : List ℕ → Option (List ℕ) → List ℕ
+lesser key None = key
+lesser key (Some other) = match_ordering (slice_cmp nat_cmp key other) key key other
+
+-- the least in byte order
+abbrev pub least : List (List ℕ) → Option (List ℕ)
+least [] = None
+least (key ∷ keys) = Some (lesser key (least keys))
+
+-- the least key of an object that isn't listed
 abbrev pub unlisted : List (List ℕ) → Data → Option (List ℕ)
-unlisted listed d = option_and_then (λ ms. find (λ key. not (is_among listed key)) (keys_of ms)) (as_object d)
+unlisted listed d = option_and_then (λ ms. least (filter (λ key. not (is_among listed key)) (keys_of ms))) (as_object d)
 
 abbrev pub refused : Option (List ℕ) → Option (List ℕ) → Result (Unit {0}) Fault
 refused path None = Ok tt

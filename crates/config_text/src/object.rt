@@ -1,6 +1,7 @@
-ghost use Rattle.std.specs.Prelude.{◌≡◌, ◌≤◌, IfOk, map, not, option_map, string_bytes};
+ghost use Rattle.std.specs.Prelude.{◌≡◌, ◌≤◌, IfOk, map, not, option_map, string_bytes, string_cmp};
 ghost use Rattle.std.specs.BTreeMap.{keys};
 ghost use Rattle.std.specs.List.{find, list_any};
+ghost use Rattle.std.specs.List.Sorted.{IsStrictlySortedBy};
 ghost use Rattle.std.specs.Option.{option_copied};
 ghost use Rattle.std.specs.Str.{bytes_eq};
 ghost use Rattle.serde_json.specs.View.{view};
@@ -22,7 +23,8 @@ fn is_among(listed: &[&str], key: &str) -> bool
 
 /// The first key that isn't one of these, in byte order.
 fn first_unlisted<'a>(members: &'a Map<String, Value>, listed: &[&str]) -> Option<&'a String>
-    ensures { option_copied result ≡ find (λ key. not (list_any (λ other. bytes_eq (string_bytes key) other.now) listed.now)) (keys members.now) }
+    ensures found { option_copied result ≡ find (λ key. not (list_any (λ other. bytes_eq (string_bytes key) other.now) listed.now)) (keys members.now) }
+    ensures ordered { IsStrictlySortedBy string_cmp (keys members.now) }
 {
     members.keys().find(|key| !is_among(listed, key.as_str()))
 }

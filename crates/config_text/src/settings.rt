@@ -1,8 +1,9 @@
-ghost use Rattle.std.specs.Prelude.{Some};
+ghost use Rattle.std.specs.Prelude.{IfOk, Some};
 ghost use Rattle.serde_json.specs.View.{view};
 ghost use Rattle.config_text.specs.Faults.{Gives, GivesSeen};
 ghost use Rattle.config_text.specs.Form.{json_of, or_json, settings_of, timers_at, timers_of, whole_of};
 ghost use Rattle.config_text.specs.Members.{at};
+ghost use Rattle.config_text.specs.Sizes.{IsSized};
 
 use crate::agents::AgentList;
 use crate::fault::ConfigFault;
@@ -132,19 +133,28 @@ fn read_json(alloc: Global, bytes: &[u8]) -> Result<Value, ConfigFault>
     }
 }
 
+/// The settings that the bytes are.
+#[tactic(auto, unfolding(crate::specs::Form::settings_of))]
+fn read_text(alloc: Global, bytes: &[u8]) -> Result<Settings, ConfigFault>
+    ensures { Gives result (settings_of bytes.now) }
+{
+    let value = read_json(alloc, bytes)?;
+    read_whole(&Place {
+        alloc,
+        path: Path::Whole,
+        value: &value,
+    })
+}
+
 impl Settings {
     /// Reads a configuration. `Json` comes exactly where the bytes are no JSON, and `Field` exactly at the first fault: the
-    /// keys of each object in their order, depth first, then a key that it may not have; a list's length before its members.
-    /// The cost is linear in the text.
-    #[tactic(auto, unfolding(crate::specs::Form::settings_of))]
+    /// keys of each object in their order, depth first, a list's length before its members, and then the least key in byte
+    /// order that the object may not have. The cost is linear in the text.
+    #[tactic(auto, using(crate::proofs::Sized::sized_if_read))]
     pub fn read(alloc: Global, bytes: &[u8]) -> Result<Settings, ConfigFault>
-        ensures { Gives result (settings_of bytes.now) }
+        ensures exact { Gives result (settings_of bytes.now) }
+        ensures sized { IfOk result IsSized }
     {
-        let value = read_json(alloc, bytes)?;
-        read_whole(&Place {
-            alloc,
-            path: Path::Whole,
-            value: &value,
-        })
+        read_text(alloc, bytes)
     }
 }
