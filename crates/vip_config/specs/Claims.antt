@@ -52,3 +52,15 @@ abbrev pub EndsAs : {K V S : Type 0} → Claimed K V → Result (IndexMap K V S)
 EndsAs w (Ok m) = (w.broken ≡ None) × (m.entries ≡ w.owners)
 EndsAs w (Err (At place)) = w.broken ≡ Some place
 EndsAs w (Err NoMemory) = ⊥
+
+-- A rule that a member breaks first, or none: what its test answers, memory aside.
+abbrev pub Tells : {X : Type 0} → Option Place → Result X Broken → Type 0
+Tells broken (Ok x) = broken ≡ None
+Tells broken (Err (At place)) = broken ≡ Some place
+Tells broken (Err NoMemory) = Unit {0}
+
+-- No key is claimed twice and each member fits, and the map has each key's owner; or the first member for which it isn't so.
+abbrev pub Indexes : {K V S : Type 0} → (K → K → Bool) → List (Claim K V) → Result (IndexMap K V S) Broken → Type 0
+Indexes same cs (Ok m) = (first_broken same [] cs ≡ None) × (m.entries ≡ owners_of cs)
+Indexes same cs (Err (At place)) = first_broken same [] cs ≡ Some place
+Indexes same cs (Err NoMemory) = Unit {0}

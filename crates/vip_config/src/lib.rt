@@ -2,7 +2,12 @@
 #![tactic(auto)]
 
 mod broken;
+mod endpoints;
+mod machines;
+mod snat;
+mod vips;
 mod place;
+mod sockets;
 mod walk;
 mod who;
 

@@ -1,5 +1,5 @@
 ghost use Rattle.std.specs.Prelude.{◌≡◌, OnOk, OnErr, IfOk};
-ghost use Rattle.vip_config.specs.Claims.{claim, claimed, nothing_claimed, EndsAs};
+ghost use Rattle.vip_config.specs.Claims.{claim, claimed, nothing_claimed, EndsAs, Tells};
 
 use crate::broken::Broken;
 use crate::place::Place;
@@ -58,6 +58,16 @@ impl<K: Eq + Hash + Drop, V: Drop> Walk<K, V> {
         let Walk { owners, broken } = self;
         match broken {
             None => Ok(owners),
+            Some(place) => Err(Broken::At(place)),
+        }
+    }
+
+    /// Whether each member keeps the rule, or the first that breaks it.
+    pub fn check(self) -> Result<(), Broken>
+        ensures { Tells self.broken result }
+    {
+        match self.broken {
+            None => Ok(()),
             Some(place) => Err(Broken::At(place)),
         }
     }
