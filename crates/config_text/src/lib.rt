@@ -3,7 +3,11 @@
 
 mod agents;
 mod fault;
+mod list;
+mod object;
+mod place;
 mod settings;
+mod values;
 mod vips;
 
 pub use agents::{AgentConf, AgentList, Attach, AttachList};

@@ -1,3 +1,8 @@
+ghost use Rattle.config_text.specs.Form.{endpoint_of, member_of, vip_of};
+
+use crate::fault::ConfigFault;
+use crate::list::Entry;
+use crate::place::Place;
 use wire_core::{Ip4, Items, Proto};
 
 pub type IpList = Items<Ip4>;
@@ -33,4 +38,57 @@ pub struct VipText {
     pub snat: IpList,
     /// At most 1,024.
     pub endpoints: EndpointList,
+}
+
+impl Entry for Member {
+    ghost entry = { member_of };
+
+    #[tactic(auto, unfolding(crate::specs::Form::member_of))]
+    fn read(place: &Place<'_>) -> Result<Member, ConfigFault> {
+        place.is_object()?;
+        let address = place.address("address")?;
+        let port = place.number("port", 1, 65535)? as u16;
+        place.nothing_but(&["address", "port"])?;
+        Ok(Member { address, port })
+    }
+}
+
+impl Entry for Endpoint {
+    ghost entry = { endpoint_of };
+
+    #[tactic(auto, unfolding(crate::specs::Form::endpoint_of))]
+    fn read(place: &Place<'_>) -> Result<Endpoint, ConfigFault> {
+        place.is_object()?;
+        let proto = place.proto("proto")?;
+        let port = place.number("port", 1, 65535)? as u16;
+        let machines = place.list("machines", 1, 64)?;
+        place.nothing_but(&["proto", "port", "machines"])?;
+        Ok(Endpoint {
+            proto,
+            port,
+            machines,
+        })
+    }
+}
+
+impl Entry for VipText {
+    ghost entry = { vip_of };
+
+    #[tactic(auto, unfolding(crate::specs::Form::vip_of))]
+    fn read(place: &Place<'_>) -> Result<VipText, ConfigFault> {
+        place.is_object()?;
+        let address = place.address("address")?;
+        let low = place.whole("low")?;
+        let high = place.whole("high")?;
+        let snat = place.list("snat", 0, 4096)?;
+        let endpoints = place.list("endpoints", 0, 1024)?;
+        place.nothing_but(&["address", "low", "high", "snat", "endpoints"])?;
+        Ok(VipText {
+            address,
+            low,
+            high,
+            snat,
+            endpoints,
+        })
+    }
 }
