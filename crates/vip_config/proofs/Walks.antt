@@ -60,11 +60,11 @@ one_more same claims start was now i d xs within step so_far =
 
 -- ---- where a walk ends
 
-none_some : {X : Type 0} {x : X} → Some x ≡ None → ⊥
+pub none_some : {X : Type 0} {x : X} → Some x ≡ None → ⊥
 none_some {X} {x} is = true≢false (ap is_some is)
 
 module _ {K V : Type 0} (same : K → K → Bool) where
-  claimed_keys : (t : K → Bool) (es : List (K × V)) → list_any t (keys_of es) ≡ is_some (lookup t es)
+  pub claimed_keys : (t : K → Bool) (es : List (K × V)) → list_any t (keys_of es) ≡ is_some (lookup t es)
   claimed_keys t [] = refl
   claimed_keys t (e ∷ es) = by (t e.0) refl (claimed_keys t es)
     where

@@ -5,3 +5,7 @@ pub mod Machines
 pub mod Vips
 pub mod Snat
 pub mod Endpoints
+pub mod Configs
+pub mod Rules
+pub mod Queries
+pub mod Leases

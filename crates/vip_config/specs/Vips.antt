@@ -1,5 +1,5 @@
 -- Addresses and ports of VIPs.
-use Rattle.std.specs.Prelude.{ℕ, suc, ◌+◌, ◌%◌, ◌==◌, nat_le, nat_lt, Bool, not, ◌&&◌, List, [], ◌∷◌, Option, Some, None, if◌then◌else◌}
+use Rattle.std.specs.Prelude.{ℕ, suc, ◌+◌, ◌%◌, ◌^◌, ◌<◌, ◌==◌, nat_le, nat_lt, Bool, not, ◌&&◌, List, [], ◌∷◌, Option, Some, None, if◌then◌else◌}
 use Rattle.std.specs.Option.{option_or}
 use Rattle.wire_core.specs.declared.address.Ip4.{Ip4}
 use Rattle.config_text.specs.declared.vips.VipText.{VipText}
@@ -25,3 +25,7 @@ wrong_port i vip = if not (is_low vip.low) then Some (Low i) else if not (is_hig
 abbrev pub first_wrong_port : ℕ → List VipText → Option Place
 first_wrong_port i [] = None
 first_wrong_port i (vip ∷ vips) = option_or (wrong_port i vip) (first_wrong_port (suc i) vips)
+
+-- the ports are port numbers
+abbrev pub HasPorts : VipText → Type 0
+HasPorts vip = (vip.low < 2 ^ 16) × (vip.high < 2 ^ 16)

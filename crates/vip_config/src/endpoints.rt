@@ -1,5 +1,5 @@
 ghost use Rattle.std.specs.Prelude.{◌≡◌, [], OnOk};
-ghost use Rattle.vip_config.specs.Claims.{Tells, all_claimed, claims_of, first_broken};
+ghost use Rattle.vip_config.specs.Claims.{Tells, all_claimed, claim, claimed, claims_of, first_broken};
 ghost use Rattle.vip_config.specs.Endpoints.{endpoint_claims, member_claims, same_endpoint_key, vip_endpoint_claims};
 ghost use Rattle.vip_config.specs.declared.endpoints.EndpointKey as keys;
 
@@ -47,6 +47,19 @@ struct At {
     proto: Proto,
 }
 
+fn claim(
+    walk: &mut Walk<EndpointKey, ()>,
+    place: Place,
+    key: EndpointKey,
+    fits: bool,
+) -> Result<(), NoMemory>
+    ensures { OnOk result (walk.new ≡ claimed same_endpoint_key walk.old (claim place key tt fits)) }
+{
+    keys_compare();
+    walk.claim(place, key, (), fits)?;
+    Ok(())
+}
+
 fn claim_member(
     walk: &mut Walk<EndpointKey, ()>,
     machines: &IndexMap<Ip4, u16>,
@@ -67,15 +80,14 @@ fn claim_member(
         address,
         port,
     };
-    walk.claim(Place::Member(vip, endpoint, k), key, (), true)?;
+    claim(walk, Place::Member(vip, endpoint, k), key, true)?;
     let key = EndpointKey::Machine {
         vip,
         endpoint,
         address,
     };
     let fits = machines.contains_key(&address);
-    keys_compare();
-    walk.claim(Place::MemberAddress(vip, endpoint, k), key, (), fits)?;
+    claim(walk, Place::MemberAddress(vip, endpoint, k), key, fits)?;
     Ok(())
 }
 
@@ -104,7 +116,7 @@ fn claim_endpoint(
 {
     let Endpoint { proto, port, .. } = *endpoint;
     let key = EndpointKey::Port { vip, proto, port };
-    walk.claim(Place::Endpoint(vip, j), key, (), true)?;
+    claim(walk, Place::Endpoint(vip, j), key, true)?;
     let at = At {
         vip,
         endpoint: j,

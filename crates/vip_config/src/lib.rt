@@ -2,8 +2,15 @@
 #![tactic(auto)]
 
 mod broken;
+mod config;
+mod copies;
+mod counts;
 mod endpoints;
+mod index;
+mod leases;
 mod machines;
+mod narrow;
+mod parts;
 mod snat;
 mod vips;
 mod place;
@@ -11,5 +18,8 @@ mod sockets;
 mod walk;
 mod who;
 
+pub use config::Config;
+pub use counts::Counts;
+pub use parts::{ConfigParts, VipConf, VipList};
 pub use place::Place;
 pub use who::Who;
