@@ -1,10 +1,10 @@
 -- A configuration that breaks no rule keeps them all.
-use Rattle.std.proofs.Common.{◌≡◌, ◌⊎◌, inl, inr, ℕ, suc, ◌+◌, ◌%◌, ◌^◌, ◌<◌, ◌≤◌, ◌==◌, nat_le, nat_lt, Bool, true, false, not, ◌&&◌, ◌||◌, List, [], ◌∷◌, ◌++◌, map, length, Option, Some, None, is_some, if◌then◌else◌, refl, ap, sym, ◌∙◌, subst, arith, true≢false}
+use Rattle.std.proofs.Common.{◌≡◌, inl, inr, ℕ, suc, Bool, true, false, not, ◌||◌, List, [], ◌∷◌, ◌++◌, map, length, Option, Some, None, is_some, refl, ap, sym, ◌∙◌, subst, arith, true≢false}
 use Rattle.std.specs.List.{flat_map, list_any}
-use Rattle.std.specs.Map.{keys_of, lookup}
+use Rattle.std.specs.Map.{keys_of}
 use Rattle.std.specs.Option.{option_or}
 use Rattle.std.proofs.lemmas.List.{map-append}
-use Rattle.std.proofs.lemmas.Bool.{eqb-true, eq-eqb}
+use Rattle.std.proofs.lemmas.Bool.{eqb-true}
 use Rattle.std.proofs.lemmas.Bool.Decides.{nat_tests}
 use Rattle.wire_core.specs.Members.{In, Each}
 use Rattle.wire_core.specs.declared.address.Ip4.{Ip4}
@@ -16,9 +16,11 @@ use Rattle.config_text.specs.Sizes.{IsSized}
 use Rattle.std.specs.Prelude.{Result}
 use Rattle.vip_config.specs.declared.broken.Broken.{Broken}
 use Rattle.vip_config.specs.Claims.{Claim, Tells, claims_of, first_broken, owners_of}
-use Rattle.vip_config.specs.Configs.{broken_rule, broken_vip_rule, parts_of, shared_machine, shared_socket, shared_vip, vip_conf_of, wrong_endpoint, wrong_port, wrong_snat}
-use Rattle.vip_config.specs.Machines.{address_claims, agent_address_claims, is_machine, machine_claims, machines_of, same_address}
-use Rattle.vip_config.specs.Rules.{HasLengths, HasRanges, IsConfig, KeepsRules, Once, agent_sockets, all_machines, all_snat, all_sockets, all_vips}
+use Rattle.vip_config.specs.Configs.{broken_rule, parts_of, shared_machine, shared_socket, shared_vip, vip_conf_of, wrong_port, wrong_snat}
+use Rattle.std.specs.Prelude.{unwrap_or}
+use Rattle.vip_config.specs.Leases.{all_machine_rules, lease_rules_of, machine_rule, machine_rules, rules_of, vip_rule}
+use Rattle.vip_config.specs.Machines.{agent_of, address_claims, agent_address_claims, is_machine, machine_claims, machines_of, same_address}
+use Rattle.vip_config.specs.Rules.{HasLengths, HasRanges, KeepsRules, Once, agent_sockets, all_machines, all_snat, all_sockets}
 use Rattle.vip_config.specs.Snat.{snat_claims, vip_snat_claims}
 use Rattle.vip_config.specs.Sockets.{agent_claims, attach_claims, mux_claims, replica_claims, same_socket, socket_claims}
 use Rattle.vip_config.specs.Vips.{HasPorts, first_wrong_port, is_high, is_low, vip_claims}
@@ -26,11 +28,8 @@ use Rattle.vip_config.specs.Vips as vips
 use Rattle.vip_config.specs.declared.place.Place.{Place}
 use Rattle.vip_config.specs.declared.parts.ConfigParts.{ConfigParts}
 use Rattle.vip_config.specs.declared.parts.VipConf.{VipConf}
-use Rattle.vip_config.proofs.Members.{each_append, each_left, each_right, in_any, in_left, in_right, once_apart, once_join, once_left, once_right}
+use Rattle.vip_config.proofs.Members.{each_append, each_left, each_right, in_any, in_left, in_right}
 use Rattle.vip_config.proofs.Walks.{claimed_keys, none_some}
-
-
-
 
 abbrev pub keys : {K V : Type 0} → List (Claim K V) → List K
 keys cs = map (λ c. c.key) cs
@@ -68,9 +67,9 @@ module _ {K V : Type 0} (same : K → K → Bool) (own : (k : K) → same k k �
           record {
             once = (λ i. later.apart c.key (in_right before (c.key ∷ []) c.key (inl refl)) i, later.once);
             apart = λ k i j.
-                elim j
-                [ inl same_key ↦ true≢false (sym (in_any same own c.key before (subst (λ x. In x before) (sym same_key) i)) ∙ new)
-                | inr later_key ↦ later.apart k (in_left before (c.key ∷ []) k i) later_key
+                elim j [
+                  | inl same_key ↦ true≢false (sym (in_any same own c.key before (subst (λ x. In x before) (sym same_key) i)) ∙ new)
+                  | inr later_key ↦ later.apart k (in_left before (c.key ∷ []) k i) later_key
                 ];
             fit = (not_false c.fits (and_left (not c.fits) (list_any (same c.key) before) is), later.fit);
           }
@@ -235,3 +234,55 @@ pub told : {X : Type 0} (a b v : Option Place) (r : Result X Broken) → a ≡ N
 told None None v r is_a is_b h = h
 told None (Some y) v r is_a is_b h = absurd (none_some is_b)
 told (Some x) b v r is_a is_b h = absurd (none_some is_a)
+
+-- ---- counts and leases
+
+keys_count : {K V : Type 0} (es : List (K × V)) → length (keys_of es) ≡ length es
+keys_count [] = refl
+keys_count (e ∷ es) = ap suc (keys_count es)
+
+pub machine_count : (agents : List AgentConf) → length (machines_of agents) ≡ length (flat_map (λ agent. map (λ machine. machine.address) agent.machines) agents)
+machine_count agents = sym (keys_count (machines_of agents)) ∙ ap length (owner_keys (machine_claims agents) ∙ machine_keys agents)
+
+vip_names : (xs : List VipConf) → map (λ rule. rule.vip) (map vip_rule xs) ≡ map (λ vip. vip.address) xs
+vip_names [] = refl
+vip_names (x ∷ xs) = ap (λ l. x.address ∷ l) (vip_names xs)
+
+pub rules_vips : (machines : List (Ip4 × ℕ)) (c : ConfigParts) → KeepsRules c → Once (map (λ rule. rule.vip) (rules_of machines c).vips)
+rules_vips machines c keeps = subst Once (sym (vip_names c.vips)) keeps.vips
+
+machine_names : (machines : List (Ip4 × ℕ)) (vip : Ip4) (xs : List Ip4) → map (λ rule. rule.machine) (map (machine_rule machines vip) xs) ≡ xs
+machine_names machines vip [] = refl
+machine_names machines vip (x ∷ xs) = ap (λ l. x ∷ l) (machine_names machines vip xs)
+
+all_names : (machines : List (Ip4 × ℕ)) (xs : List VipConf) → map (λ rule. rule.machine) (all_machine_rules machines xs) ≡ flat_map (λ vip. vip.snat) xs
+all_names machines [] = refl
+all_names machines (x ∷ xs) =
+    map-append (λ rule. rule.machine) (machine_rules machines x) (all_machine_rules machines xs) ∙ (λ t. machine_names machines x.address x.snat t ++ all_names machines xs t)
+
+pub rules_machines : (machines : List (Ip4 × ℕ)) (c : ConfigParts) → KeepsRules c → Once (map (λ rule. rule.machine) (rules_of machines c).machines)
+rules_machines machines c keeps = subst Once (sym (all_names machines c.vips)) keeps.snat
+
+some_of : (o : Option ℕ) → is_some o ≡ true → o ≡ Some (unwrap_or o 0)
+some_of None h = absurd (true≢false (sym h))
+some_of (Some n) h = refl
+
+named : (machines : List (Ip4 × ℕ)) (vip : Ip4) (xs : List Ip4) → Each (λ a. is_machine machines a ≡ true) xs → Each (λ rule. agent_of machines rule.machine ≡ Some rule.agent) (map (machine_rule machines vip) xs)
+named machines vip [] h = tt
+named machines vip (x ∷ xs) h = (some_of (agent_of machines x) h.0, named machines vip xs h.1)
+
+all_named : (machines : List (Ip4 × ℕ)) (xs : List VipConf) → Each (λ a. is_machine machines a ≡ true) (flat_map (λ vip. vip.snat) xs) → Each (λ rule. agent_of machines rule.machine ≡ Some rule.agent) (all_machine_rules machines xs)
+all_named machines [] h = tt
+all_named machines (x ∷ xs) h =
+    each_append (λ rule. agent_of machines rule.machine ≡ Some rule.agent) (machine_rules machines x) (all_machine_rules machines xs)
+    (named machines x.address x.snat (each_left (λ a. is_machine machines a ≡ true) x.snat (flat_map (λ vip. vip.snat) xs) h))
+    (all_named machines xs (each_right (λ a. is_machine machines a ≡ true) x.snat (flat_map (λ vip. vip.snat) xs) h))
+
+each_on : {X : Type 0} (P Q : X → Type 0) → ((x : X) → P x → Q x) → (xs : List X) → Each P xs → Each Q xs
+each_on P Q f [] h = tt
+each_on P Q f (x ∷ xs) h = (f x h.0, each_on P Q f xs h.1)
+
+pub rules_agents : (c : ConfigParts) → KeepsRules c → Each (λ rule. agent_of (machines_of c.agents) rule.machine ≡ Some rule.agent) (lease_rules_of c).machines
+rules_agents c keeps =
+    all_named (machines_of c.agents) c.vips
+    (each_on (λ a. In a (all_machines c)) (λ a. is_machine (machines_of c.agents) a ≡ true) (λ a there. machine_test c.agents a ∙ in_any same_address own_address a (all_machines c) there) (all_snat c) keeps.snat_machines)

@@ -1,3 +1,4 @@
 pub mod Walks
 pub mod Members
 pub mod Laws
+pub mod Loops

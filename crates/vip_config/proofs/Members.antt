@@ -1,6 +1,6 @@
 -- One of a list, each of a list, and lists without two equal members.
-use Rattle.std.proofs.Common.{◌≡◌, ◌⊎◌, inl, inr, ℕ, suc, Bool, true, false, ◌||◌, List, [], ◌∷◌, ◌++◌, map, refl, ap, sym, ◌∙◌, subst}
-use Rattle.std.specs.List.{flat_map, list_any}
+use Rattle.std.proofs.Common.{◌≡◌, ◌⊎◌, inl, inr, Bool, true, ◌||◌, List, [], ◌∷◌, ◌++◌, refl, ap, sym, ◌∙◌, subst}
+use Rattle.std.specs.List.{list_any}
 use Rattle.std.proofs.Math.Bool.{or-true}
 use Rattle.wire_core.specs.Members.{In, Each}
 use Rattle.vip_config.specs.Rules.{Once}
@@ -33,9 +33,9 @@ in_cases (z ∷ zs) ys x i = elim i [ inl e ↦ inl (inl e) | inr j ↦ elim (in
 pub in_any : {K : Type 0} (same : K → K → Bool) → ((k : K) → same k k ≡ true) → (k : K) (ks : List K) → In k ks → list_any (same k) ks ≡ true
 in_any same own k [] h = absurd h
 in_any same own k (x ∷ xs) h =
-    elim h
-    [ inl is ↦ ap (λ b. b || list_any (same k) xs) (ap (same k) is ∙ own k)
-    | inr j ↦ ap (λ b. same k x || b) (in_any same own k xs j) ∙ or-true (same k x)
+    elim h [
+      | inl is ↦ ap (λ b. b || list_any (same k) xs) (ap (same k) is ∙ own k)
+      | inr j ↦ ap (λ b. same k x || b) (in_any same own k xs j) ∙ or-true (same k x)
     ]
 
 pub once_left : {X : Type 0} (xs ys : List X) → Once (xs ++ ys) → Once xs

@@ -1,8 +1,8 @@
 -- Walks over claims.
-use Rattle.std.proofs.Common.{◌≡◌, ℕ, zero, suc, ◌+◌, ◌<◌, Bool, true, false, not, ◌||◌, cond, List, [], ◌∷◌, ◌++◌, map, fold, length, take, drop, get_or, Option, Some, None, is_some, if◌then◌else◌, refl, ap, sym, ◌∙◌, subst, arith, true≢false}
+use Rattle.std.proofs.Common.{◌≡◌, ℕ, zero, suc, ◌+◌, ◌<◌, Bool, true, false, not, ◌||◌, List, [], ◌∷◌, ◌++◌, length, take, get_or, Option, Some, None, is_some, refl, ap, sym, ◌∙◌, subst, arith, true≢false}
 use Rattle.std.specs.List.{list_any}
 use Rattle.std.specs.Map.{lookup, keys_of}
-use Rattle.std.proofs.lemmas.List.{take_more, append_assoc, append-nil}
+use Rattle.std.proofs.lemmas.List.{append_assoc, append-nil}
 use Rattle.std.proofs.lemmas.List.Sums.{fold-append}
 use Rattle.indexmap.specs.IndexMap.{IndexMap, insert_entry}
 use Rattle.std.specs.Prelude.{Result, Ok, Err}
@@ -54,8 +54,8 @@ pub one_more : {K V A : Type 0} (same : K → K → Bool) (claims : ℕ → A �
     → now ≡ all_claimed same start (claims_of claims 0 (take (i + 1) xs))
 one_more same claims start was now i d xs within step so_far =
     let more : claims_of claims 0 (take (i + 1) xs) ≡ claims_of claims 0 (take i xs) ++ claims i (get_or xs i d) =
-        ap (λ n. claims_of claims 0 (take n xs)) (let at : i + 1 ≡ suc i = omega arith in at) ∙ claims_next claims 0 i d xs within
-        ∙ ap (λ n. claims_of claims 0 (take i xs) ++ claims n (get_or xs i d)) (let at : 0 + i ≡ i = omega arith in at) in
+    ap (λ n. claims_of claims 0 (take n xs)) (let at : i + 1 ≡ suc i = omega arith in at) ∙ claims_next claims 0 i d xs within
+    ∙ ap (λ n. claims_of claims 0 (take i xs) ++ claims n (get_or xs i d)) (let at : 0 + i ≡ i = omega arith in at) in
     step ∙ ap (λ w. all_claimed same w (claims i (get_or xs i d))) so_far ∙ sym (claimed_append same start (claims_of claims 0 (take i xs)) (claims i (get_or xs i d))) ∙ ap (all_claimed same start) (sym more)
 
 -- ---- where a walk ends
@@ -97,7 +97,7 @@ module _ {K V : Type 0} (same : K → K → Bool) where
   went_on es c cs is rest =
       let end : all_claimed same (record { owners = es; broken = None }) (c ∷ cs) ≡ all_claimed same (record { owners = es ++ (c.key, c.owner) ∷ []; broken = None }) cs = rw is refl in
       let first : first_broken same (keys_of es) (c ∷ cs) ≡ first_broken same (keys_of (es ++ (c.key, c.owner) ∷ [])) cs =
-          rw (claimed_keys (same c.key) es, is) (ap (λ l. first_broken same l cs) (sym (more_keys es c.key c.owner))) in
+      rw (claimed_keys (same c.key) es, is) (ap (λ l. first_broken same l cs) (sym (more_keys es c.key c.owner))) in
       record {
         broken = ap (λ w. w.broken) end ∙ rest.broken ∙ sym first;
         owners = λ going. ap (λ w. w.owners) end ∙ rest.owners (sym (ap (λ w. w.broken) end) ∙ going) ∙ append_assoc es ((c.key, c.owner) ∷ []) (owners_of cs);

@@ -1,5 +1,5 @@
 -- A configuration that keeps every rule, or the first member that breaks one.
-use Rattle.std.specs.Prelude.{◌≡◌, ℕ, List, [], ◌∷◌, map, Option, Some, None, Result, Ok, Err}
+use Rattle.std.specs.Prelude.{ℕ, List, [], map, Option, Some, None, Result, Ok, Err}
 use Rattle.std.specs.Option.{option_or}
 use Rattle.config_text.specs.declared.settings.Settings.{Settings}
 use Rattle.config_text.specs.declared.vips.VipText.{VipText}

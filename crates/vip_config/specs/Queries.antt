@@ -1,5 +1,5 @@
 -- What is asked of a configuration.
-use Rattle.std.specs.Prelude.{ℕ, List, map, length, slice_get, Option, unwrap_or, option_map}
+use Rattle.std.specs.Prelude.{List, length, slice_get, Option, unwrap_or, option_map}
 use Rattle.std.specs.Map.{lookup}
 use Rattle.wire_core.specs.declared.address.Socket.{Socket}
 use Rattle.wire_core.specs.declared.node.NodeId.{NodeId}

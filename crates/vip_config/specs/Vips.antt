@@ -3,7 +3,7 @@ use Rattle.std.specs.Prelude.{ℕ, suc, ◌+◌, ◌%◌, ◌^◌, ◌<◌, ◌=
 use Rattle.std.specs.Option.{option_or}
 use Rattle.wire_core.specs.declared.address.Ip4.{Ip4}
 use Rattle.config_text.specs.declared.vips.VipText.{VipText}
-use Rattle.vip_config.specs.Claims.{Claim, claim, claims_of}
+use Rattle.vip_config.specs.Claims.{Claim, claim}
 use Rattle.vip_config.specs.Machines.{is_machine}
 use Rattle.vip_config.specs.declared.place.Place.{Place}
 use Rattle.vip_config.specs.declared.place.Place.TheVariants.{VipAddress, Low, High}

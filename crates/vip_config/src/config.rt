@@ -13,9 +13,9 @@ ghost use Rattle.vip_config.specs.declared.parts.ConfigParts as parts;
 ghost use Rattle.wire_core.specs.Members.{Each};
 
 use crate::broken::Broken;
-use crate::index::{Index, build_index};
 use crate::copies::{copy_index, copy_parts};
 use crate::counts::{Counts, count_ranges};
+use crate::index::{Index, build_index};
 use crate::leases::make_rules;
 use crate::narrow::narrow_vips;
 use crate::parts::{ConfigParts, VipConf};
@@ -207,7 +207,8 @@ impl Config {
         ensures machines { IfOk result (λ rules. Once (map (λ rule. rule.machine) rules.machines)) }
         ensures agents { IfOk result (λ rules. Each (λ rule. agent_of (machines_of self.now.agents) rule.machine ≡ Some rule.agent) rules.machines) }
     {
-        make_rules(alloc, &self.parts, &self.index.machines)
+        let rules = make_rules(alloc, &self.parts, &self.index.machines)?;
+        Ok(rules)
     }
 
     /// How many ranges may be leased over all the VIPs. Looks at each VIP and endpoint for each of the 8,192 starts of
@@ -216,7 +217,7 @@ impl Config {
         ensures { IfOk result (λ n. n ≡ ranges_of self.now) }
     {
         let rules = self.lease_rules(alloc)?;
-        Ok(count_ranges(&rules, self.vips()))
+        Ok(count_ranges(&rules, self.parts.vips.as_slice()))
     }
 
     /// An equal configuration. The cost is linear in the members.

@@ -2,8 +2,10 @@ ghost use Rattle.std.specs.Prelude.{◌≡◌, IfOk};
 
 use crate::index::Index;
 use crate::parts::{ConfigParts, VipConf, VipList};
-use config_text::{AgentConf, AgentList, AttachList, Endpoint, EndpointList, IpList, MemberList, SocketList};
-use config_text::{Attach, Member};
+use config_text::{
+    AgentConf, AgentList, Attach, AttachList, Endpoint, EndpointList, IpList, Member, MemberList,
+    SocketList,
+};
 use std::alloc::Global;
 use wire_core::{Ip4, Items, NoMemory, Socket};
 

@@ -25,11 +25,7 @@ pub struct Index {
 }
 
 /// Tests the rules of VIPs in their order.
-fn check_vips(
-    alloc: Global,
-    machines: &IndexMap<Ip4, u16>,
-    vips: &[VipText],
-) -> Result<(), Broken>
+fn check_vips(alloc: Global, machines: &IndexMap<Ip4, u16>, vips: &[VipText]) -> Result<(), Broken>
     ensures { Tells (broken_vip_rule machines.now.entries vips.now) result }
 {
     check_addresses(alloc, machines, vips)?;

@@ -11,10 +11,10 @@ mod leases;
 mod machines;
 mod narrow;
 mod parts;
-mod snat;
-mod vips;
 mod place;
+mod snat;
 mod sockets;
+mod vips;
 mod walk;
 mod who;
 

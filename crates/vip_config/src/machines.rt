@@ -37,10 +37,7 @@ fn claim_agents(walk: &mut Walk<Ip4, u16>, agents: &[AgentConf]) -> Result<(), N
 
 /// No two machine addresses are equal: whose machine each address is, by the agent's number, or the first address that
 /// stands earlier.
-pub fn index_machines(
-    alloc: Global,
-    agents: &[AgentConf],
-) -> Result<IndexMap<Ip4, u16>, Broken>
+pub fn index_machines(alloc: Global, agents: &[AgentConf]) -> Result<IndexMap<Ip4, u16>, Broken>
     requires { length agents.now ≤ 256 }
     ensures { Indexes same_address (machine_claims agents.now) result }
 {

@@ -45,15 +45,16 @@ fn claim_attached(
     Ok(())
 }
 
-fn claim_agent(
-    walk: &mut Walk<Socket, Who>,
-    i: usize,
-    agent: &AgentConf,
-) -> Result<(), NoMemory>
+fn claim_agent(walk: &mut Walk<Socket, Who>, i: usize, agent: &AgentConf) -> Result<(), NoMemory>
     requires { i ≤ 256 }
     ensures { OnOk result (walk.new ≡ all_claimed same_socket walk.old (agent_claims i agent.now)) }
 {
-    walk.claim(Place::AgentSocket(i), agent.socket, Who::Agent(i as u16), true)?;
+    walk.claim(
+        Place::AgentSocket(i),
+        agent.socket,
+        Who::Agent(i as u16),
+        true,
+    )?;
     claim_attached(walk, i, agent.machines.as_slice())
 }
 

@@ -1,5 +1,5 @@
 use Rattle.std.proofs.Common.{ap, ◌∙◌}
-use Rattle.vip_config.specs.Claims.{all_claimed, claims_of}
+use Rattle.vip_config.specs.Claims.{all_claimed}
 use Rattle.vip_config.specs.Machines.{machine_claims, same_address}
 use Rattle.vip_config.proofs.Walks.{ends}
 use Rattle.vip_config.proofs.machines.index_machines.Goals as goal
