@@ -2,6 +2,7 @@ ghost use Rattle.std.specs.Prelude.{◌≡◌, ◌<◌, ◌≤◌, ◌↔◌, �
 ghost use Rattle.std.specs.Fmt.{decimal};
 ghost use Rattle.std.specs.Io.KnownBytes.{Appends, IsAtEnd};
 ghost use Rattle.outside_io.specs.Faults.{Rose};
+ghost use Rattle.plain_schedule.specs.Safety.{IsAlwaysSafe};
 ghost use Rattle.plain_schedule.specs.Schedule.{plain_lines};
 ghost use Rattle.ananta_top.specs.Words.{job_of};
 ghost use Rattle.ananta_top.specs.Run.{AfterReading, FirstIs, IsRefusal, IsTooLong, IsWithin, JudgesInput, JudgesText, Printed, PrintedFront, Refuses, TellsLine, ending_line, status_of};
@@ -48,6 +49,7 @@ enum Ending {
 fn replay<K: Sink>(alloc: Global, text: &[u8], out: &mut K) -> Ending
     requires { length text.now ≤ INPUT_LIMIT }
     ensures done { result ≡ Ending.Done → Printed (K.written out.old) (K.written out.new) text.now }
+    ensures safe { IsAlwaysSafe text.now }
     ensures bad { FirstIs result text.now }
     ensures write { result ≡ Ending.WriteFault → Rose (K.faults out.old) (K.faults out.new) }
     ensures front { result ≡ Ending.WriteFault → PrintedFront (K.written out.old) (K.written out.new) text.now }
@@ -74,6 +76,7 @@ fn perform<S: Source, K: Sink>(
     ensures usage { (result ≡ Ending.Usage) ↔ (job_of words.now ≡ None) }
     ensures done { result ≡ Ending.Done → IfSome (S.left input.old) (Printed (K.written out.old) (K.written out.new)) }
     ensures end { result ≡ Ending.Done → IsAtEnd (S.left input.new) }
+    ensures safe { result ≡ Ending.Done → IfSome (S.left input.old) IsAlwaysSafe }
     ensures within { JudgesText result → IfSome (S.left input.old) IsWithin }
     ensures bad { IfSome (S.left input.old) (FirstIs result) }
     ensures long { result ≡ Ending.TooLong → IfSome (S.left input.old) IsTooLong }
@@ -149,9 +152,11 @@ pub fn run<S: Source, K: Sink, H: Host, C: Clock>(
     host: &mut H,
     clock: &mut C,
 ) -> Status
-    // The headline: what was written is exactly what the schedule prints, and the input was read to its end.
+    // The headline: what was written is exactly what the schedule prints, the input was read to its end, and each moment
+    // of the schedule was safe.
     ensures done { result ≡ Status.Done → IfSome (S.left input.old) (Printed (K.written out.old) (K.written out.new)) }
     ensures end { result ≡ Status.Done → IsAtEnd (S.left input.new) }
+    ensures safe { result ≡ Status.Done → IfSome (S.left input.old) IsAlwaysSafe }
 
     // When each other answer comes.
     ensures usage { (result ≡ Status.Usage) ↔ (job_of words.now ≡ None) }

@@ -12,7 +12,7 @@ use Rattle.config_text.specs.declared.vips.Endpoint.{Endpoint}
 use Rattle.config_text.specs.declared.vips.VipText.{VipText}
 use Rattle.config_text.specs.Faults.{Fault, Gives, given, ◌>>=◌}
 use Rattle.config_text.specs.Form.{agent_of, attach_of, endpoint_of, json_of, member_of, or_json, settings_of, timers_at, vip_of, whole_of}
-use Rattle.config_text.specs.Members.{At, address_in, each, is_of_length, item_path, key_path, list_at, list_of_length, member_at, nothing_but, number_in, object, proto_in, single, socket_in, whole_in}
+use Rattle.config_text.specs.Members.{At, address_in, each, is_of_length, item_path, key_path, list_at, list_of_length, member_at, nothing_but, number_in, object, port_in, proto_in, single, socket_in, whole_in}
 use Rattle.config_text.specs.Sizes.{HasLength, IsSized, IsSizedAgent, IsSizedEndpoint, IsSizedVip}
 
 abbrev same : {A : Type 0} → Result A Fault → Result A Fault → Type 0
@@ -76,7 +76,7 @@ agent_sized o a =
 endpoint_sized : (o : At) (x : Endpoint) → endpoint_of o ≡ Ok x → IsSizedEndpoint x
 unfolding endpoint_of
 endpoint_sized o x =
-    then_ok (object o) _ x (λ is_object e0. then_ok (member_at proto_in o (codes "proto")) _ x (λ proto e1. then_ok (member_at (number_in 1 65535) o (codes "port")) _ x (λ port e2. then_ok (list_at member_of 1 64 o (codes "machines")) _ x (λ machines found. then_ok (nothing_but (codes "proto" ∷ codes "port" ∷ codes "machines" ∷ []) o) _ x (λ others e3 last.
+    then_ok (object o) _ x (λ is_object e0. then_ok (member_at proto_in o (codes "proto")) _ x (λ proto e1. then_ok (member_at port_in o (codes "port")) _ x (λ port e2. then_ok (list_at member_of 1 64 o (codes "machines")) _ x (λ machines found. then_ok (nothing_but (codes "proto" ∷ codes "port" ∷ codes "machines" ∷ []) o) _ x (λ others e3 last.
     subst IsSizedEndpoint (ok_is _ _ last) (list_ok (λ m. Unit {0}) member_of 1 64 o (codes "machines") machines (anything member_of) found).0)))))
 
 vip_sized : (o : At) (v : VipText) → vip_of o ≡ Ok v → IsSizedVip v

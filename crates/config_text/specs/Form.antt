@@ -11,7 +11,7 @@ use Rattle.config_text.specs.declared.vips.Endpoint.{Endpoint}
 use Rattle.config_text.specs.declared.vips.Member.{Member}
 use Rattle.config_text.specs.declared.vips.VipText.{VipText}
 use Rattle.config_text.specs.Faults.{Fault, json, ◌>>=◌}
-use Rattle.config_text.specs.Members.{At, address_in, child, list_at, member_at, nothing_but, number_in, object, proto_in, single, socket_in, whole_in}
+use Rattle.config_text.specs.Members.{At, address_in, child, list_at, member_at, nothing_but, number_in, object, port_in, proto_in, single, socket_in, whole_in}
 
 unfoldable pub attach_of : At → Result Attach Fault
 attach_of o = do
@@ -33,7 +33,7 @@ unfoldable pub member_of : At → Result Member Fault
 member_of o = do
   is_object ← object o
   address ← member_at address_in o (codes "address")
-  port ← member_at (number_in 1 65535) o (codes "port")
+  port ← member_at port_in o (codes "port")
   others ← nothing_but (codes "address" ∷ codes "port" ∷ []) o
   Ok (record { address = address; port = port })
 
@@ -41,7 +41,7 @@ unfoldable pub endpoint_of : At → Result Endpoint Fault
 endpoint_of o = do
   is_object ← object o
   proto ← member_at proto_in o (codes "proto")
-  port ← member_at (number_in 1 65535) o (codes "port")
+  port ← member_at port_in o (codes "port")
   machines ← list_at member_of 1 64 o (codes "machines")
   others ← nothing_but (codes "proto" ∷ codes "port" ∷ codes "machines" ∷ []) o
   Ok (record { proto = proto; port = port; machines = machines })

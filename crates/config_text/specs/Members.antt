@@ -32,6 +32,9 @@ within low high n = if nat_le low n && nat_le n high then Some n else None
 abbrev pub number_in : ℕ → ℕ → Data → Option ℕ
 number_in low high d = option_and_then (within low high) (whole_in d)
 
+abbrev pub port_in : Data → Option ℕ
+port_in = number_in 1 65535
+
 abbrev pub address_in : Data → Option Ip4
 address_in d = option_and_then address_of (as_str d)
 

@@ -6,7 +6,7 @@ ghost use Rattle.std.specs.Option.{option_copied};
 ghost use Rattle.std.specs.Str.{bytes_eq};
 ghost use Rattle.serde_json.specs.View.{view};
 ghost use Rattle.config_text.specs.Faults.{Gives};
-ghost use Rattle.config_text.specs.Members.{address_in, at, member_at, nothing_but, number_in, object, proto_in, socket_in, unlisted, whole_in};
+ghost use Rattle.config_text.specs.Members.{address_in, at, member_at, nothing_but, number_in, object, port_in, proto_in, socket_in, unlisted, whole_in};
 
 use crate::fault::ConfigFault;
 use crate::place::Place;
@@ -54,6 +54,13 @@ impl<'a> Place<'a> {
         ensures { Gives result (member_at whole_in (at self.now) key.now) }
     {
         self.found_at(key, self.value.get(key).and_then(whole_in))
+    }
+
+    /// A port from 1 at a key.
+    pub fn port(&self, key: &str) -> Result<u16, ConfigFault>
+        ensures { Gives result (member_at port_in (at self.now) key.now) }
+    {
+        Ok(self.number(key, 1, 65535)? as u16)
     }
 
     /// An address at a key.

@@ -18,7 +18,7 @@ pub fn number_in(value: &Value, low: u64, high: u64) -> Option<u64>
     ensures read { result ≡ number_in low high (view value.now) }
     ensures within { IfSome result (λ n. n ≤ high) }
 {
-    let number = value.as_u64()?;
+    let number = whole_in(value)?;
     if low <= number && number <= high {
         Some(number)
     } else {

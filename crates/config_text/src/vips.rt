@@ -47,7 +47,7 @@ impl Entry for Member {
     fn read(place: &Place<'_>) -> Result<Member, ConfigFault> {
         place.is_object()?;
         let address = place.address("address")?;
-        let port = place.number("port", 1, 65535)? as u16;
+        let port = place.port("port")?;
         place.nothing_but(&["address", "port"])?;
         Ok(Member { address, port })
     }
@@ -60,7 +60,7 @@ impl Entry for Endpoint {
     fn read(place: &Place<'_>) -> Result<Endpoint, ConfigFault> {
         place.is_object()?;
         let proto = place.proto("proto")?;
-        let port = place.number("port", 1, 65535)? as u16;
+        let port = place.port("port")?;
         let machines = place.list("machines", 1, 64)?;
         place.nothing_but(&["proto", "port", "machines"])?;
         Ok(Endpoint {

@@ -116,3 +116,8 @@ pub found_free : (rules : LeaseRules) (rows : List Row) (vip : Ip4) (r : Range) 
 found_free rules rows vip r e =
     let least : IsLeast rules rows vip r = subst (IsLeastFree rules rows vip) e (least_free_is rules rows vip) in
     let free : is_free rules rows r ≡ true = least.free in grind arith
+
+pub found_leasable : (rules : LeaseRules) (rows : List Row) (vip : Ip4) (r : Range) → least_free rules rows vip ≡ Some r → is_leasable rules r ≡ true
+found_leasable rules rows vip r e =
+    let least : IsLeast rules rows vip r = subst (IsLeastFree rules rows vip) e (least_free_is rules rows vip) in
+    let free : is_free rules rows r ≡ true = least.free in grind arith

@@ -4,3 +4,4 @@ pub mod FreeLaws
 pub mod LifeLaws
 pub mod PlaceLaws
 pub mod WorkedRun
+pub mod HolderLaws

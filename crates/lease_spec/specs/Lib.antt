@@ -2,3 +2,4 @@ pub mod Places
 pub mod Free
 pub mod Table
 pub mod Lives
+pub mod Holders

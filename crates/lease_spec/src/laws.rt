@@ -3,9 +3,10 @@ ghost use Rattle.wire_core.specs.declared.address.Ip4.{Ip4};
 ghost use Rattle.wire_core.specs.declared.rules.LeaseRules.{LeaseRules};
 ghost use Rattle.lease_spec.specs.declared.row.Row.{Row};
 ghost use Rattle.lease_spec.specs.Free.{IsLeastFree, least_free};
+ghost use Rattle.lease_spec.specs.Holders.{AllLeasable, OwnRanges};
 ghost use Rattle.lease_spec.specs.Lives.{AllCaused, EarlierIsGone, Lasts, StandsOrGone};
 ghost use Rattle.lease_spec.specs.Places.{AreShort, Ascends, Placed, commands};
-ghost use Rattle.lease_spec.specs.Table.{OneMore};
+ghost use Rattle.lease_spec.specs.Table.{OneMore, story};
 ghost use Rattle.wire_core.specs.Commands.{LogCommand};
 
 /// The least free range of a VIP: it is leasable and without a row, and none with a lesser start is. Where there is
@@ -29,4 +30,10 @@ pub fn lives()
 pub fn slots()
     ensures rise { (values : List (List LogCommand)) → AreShort values → Ascends (commands values) }
     ensures more { (rules : LeaseRules) (values : List (List LogCommand)) (value : List LogCommand) → OneMore rules values value }
+{}
+
+/// Whatever commands are agreed on: no two leases that stand are on one range, and each is on a leasable one.
+pub fn holders()
+    ensures leasable { (rules : LeaseRules) (cs : List Placed) → AllLeasable rules (story rules cs).leases.rows }
+    ensures own { (rules : LeaseRules) (cs : List Placed) → OwnRanges (story rules cs).leases.rows }
 {}

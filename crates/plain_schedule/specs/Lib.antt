@@ -4,3 +4,4 @@ pub mod Connections
 pub mod Packets
 pub mod Schedule
 pub mod Answers
+pub mod Safety

@@ -12,18 +12,22 @@
 //!
 //! [`plain_lines`] reads the whole text and answers all that it prints, or its first bad line. What a text prints is the
 //! definition `plain_lines` of `specs/Schedule.antt`: a fold of the lines over the lease table and the
-//! connections that were opened. A connection stands while its lease does.
+//! connections that were opened. A connection stands while its lease does. At each moment of every text no two machines
+//! hold one range, no two live connections share a translated end, and a reply reaches the machine that opened its
+//! connection and no other: [`always_safe`].
 #![tactic(auto)]
 
 mod cause;
 mod choice;
 mod connections;
+mod laws;
 mod line;
 mod packets;
 mod replay;
 mod state;
 
 pub use connections::{Connection, Connections};
+pub use laws::always_safe;
 pub use line::Line;
 pub use replay::{PlainFault, plain_lines};
 

@@ -3,8 +3,10 @@ ghost use Rattle.std.specs.Option.{option_copied};
 ghost use Rattle.address_text.specs.Fields.{parts_of};
 ghost use Rattle.plain_schedule.specs.declared.replay.PlainFault.TheVariants.{NoMemory};
 ghost use Rattle.plain_schedule.specs.Answers.{Prints};
+ghost use Rattle.plain_schedule.specs.Safety.{IsAlwaysSafe};
 ghost use Rattle.plain_schedule.specs.Schedule.{line_step, lines_from, onto, plain_lines, start, without_end};
 
+use crate::laws::always_safe;
 use crate::line::line_of;
 use crate::state::PlainState;
 use address_text::cut;
@@ -79,11 +81,14 @@ fn without_end(text: &[u8]) -> &[u8]
     }
 }
 
-/// What the text of a plain schedule prints, or its first bad line. Each line costs a few look-ups in maps.
+/// What the text of a plain schedule prints, or its first bad line. Each moment that the text leads through is safe. Each
+/// line costs a few look-ups in maps.
 pub fn plain_lines(alloc: Global, text: &[u8]) -> Result<String, PlainFault>
     requires { length text.now + 1 < 2 ^ 32 }
-    ensures { Prints result (plain_lines text.now) }
+    ensures prints { Prints result (plain_lines text.now) }
+    ensures safe { IsAlwaysSafe text.now }
 {
+    always_safe();
     let (first, rest) = cut(without_end(text), b'\n');
     if first != b"plain".as_slice() {
         return Err(PlainFault::Line(1));

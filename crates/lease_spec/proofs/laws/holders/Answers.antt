@@ -1,0 +1,8 @@
+use Rattle.lease_spec.proofs.HolderLaws.{all_leasable, own_ranges}
+use Rattle.lease_spec.proofs.laws.holders.Goals as goal
+
+pub returns-clause-leasable : goal.returns-clause-leasable
+returns-clause-leasable c = all_leasable
+
+pub returns-clause-own : goal.returns-clause-own
+returns-clause-own c = own_ranges
