@@ -1,16 +1,14 @@
 -- What the program's jobs answer to a text.
-use Rattle.std.specs.Prelude.{◌≡◌, ℕ, ◌++◌, List, length, Option, Some, None, Result, Ok, Err, codes, String, string_bytes}
+use Rattle.std.specs.Prelude.{◌≡◌, ℕ, ◌++◌, List, Option, Some, None, Result, Ok, Err, codes, String, string_bytes}
 use Rattle.std.specs.Fmt.{decimal}
-use Rattle.std.specs.List.{sum_by}
 use Rattle.std.specs.declared.alloc.Global.{Global}
 use Rattle.config_text.specs.Faults.{Fault, json, field}
 use Rattle.plain_schedule.specs.Schedule.{plain_lines}
-use Rattle.vip_config.specs.Configs.{config_of, lease_rules_of}
-use Rattle.vip_config.specs.Machines.{machines_of}
+use Rattle.vip_config.specs.Configs.{config_of}
+use Rattle.vip_config.specs.Leases.{ranges_of}
+use Rattle.vip_config.specs.Queries.{counts_of}
+use Rattle.vip_config.specs.declared.counts.Counts.{Counts}
 use Rattle.vip_config.specs.declared.parts.ConfigParts.{ConfigParts}
-use Rattle.wire_core.specs.Ranges.{leasable_count}
-use Rattle.wire_core.specs.declared.rules.LeaseRules.{LeaseRules}
-use Rattle.wire_core.specs.declared.rules.VipRule.{VipRule}
 use Rattle.ananta_top.specs.declared.refusal.Refusal.{Refusal}
 use Rattle.ananta_top.specs.declared.refusal.Refusal.TheVariants as refusal
 use Rattle.ananta_top.specs.Words.{job_of}
@@ -34,19 +32,18 @@ of_schedule (Err n) = Err (bad_line n)
 
 -- ---- `check`
 
--- how many ranges may be leased, over all VIPs
-abbrev pub range_count : LeaseRules → ℕ
-range_count rules = sum_by (λ (vip : VipRule). leasable_count rules vip.vip) rules.vips
+-- a space, a name, a space and a number
+unfoldable pub count : List ℕ → ℕ → List ℕ
+count name n = codes " " ++ name ++ codes " " ++ decimal n
 
 -- the line of a configuration
+abbrev pub counts_line : Counts → ℕ → List ℕ
+counts_line c ranges =
+    codes "ok replicas 5" ++ count (codes "muxes") c.muxes ++ count (codes "agents") c.agents ++ count (codes "machines") c.machines ++ count (codes "vips") c.vips
+    ++ count (codes "ranges") ranges ++ codes "\n"
+
 abbrev pub summary : ConfigParts → List ℕ
-summary c =
-    codes "ok replicas 5 muxes " ++ decimal (length c.muxes)
-    ++ codes " agents " ++ decimal (length c.agents)
-    ++ codes " machines " ++ decimal (length (machines_of c.agents))
-    ++ codes " vips " ++ decimal (length c.vips)
-    ++ codes " ranges " ++ decimal (range_count (lease_rules_of c))
-    ++ codes "\n"
+summary c = counts_line (counts_of c) (ranges_of c)
 
 abbrev pub of_config : Result ConfigParts Fault → Result (List ℕ) NoAnswer
 of_config (Ok c) = Ok (summary c)

@@ -1,5 +1,5 @@
 -- What the program writes, and when it ends how.
-use Rattle.std.specs.Prelude.{◌≡◌, ℕ, ◌<◌, ◌≤◌, ◌++◌, List, [], length, take, Option, Some, None, Result, Ok, Err, IfSome, IsOk, IsOkAnd, codes, String, string_bytes}
+use Rattle.std.specs.Prelude.{ℕ, ◌<◌, ◌≤◌, ◌++◌, List, [], length, take, Option, Some, None, Result, Ok, Err, IfSome, IsOk, IsOkAnd, codes, string_bytes}
 use Rattle.std.specs.Fmt.{decimal}
 use Rattle.std.specs.Io.KnownBytes.{Appends}
 use Rattle.config_text.specs.Faults.{Fault, json, field}

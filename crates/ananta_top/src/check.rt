@@ -1,39 +1,41 @@
 //! The command `check`: a configuration is read, and told in one line.
-ghost use Rattle.std.specs.Prelude.{◌≡◌, ◌≤◌, IfOk, length, string_bytes};
-ghost use Rattle.vip_config.specs.Configs.{config_of};
-ghost use Rattle.ananta_top.specs.Answers.{Answers, answer, range_count, summary};
+ghost use Rattle.std.specs.Prelude.{◌≡◌, ◌++◌, IfOk, OnOk, string_bytes};
+ghost use Rattle.ananta_top.specs.Answers.{Answers, answer, count, counts_line, summary};
 ghost use Rattle.ananta_top.specs.declared.words.Job.TheVariants.{Check};
 
 use crate::refusal::Refusal;
 use config_text::ConfigFault;
 use std::alloc::{AllocError, Global};
-use vip_config::Config;
-use wire_core::LeaseRules;
+use vip_config::{Config, Counts};
 
-/// How many ranges may be leased, over all VIPs.
-fn count_ranges(rules: &LeaseRules) -> u64
-    requires { length rules.now.vips ≤ 64 }
-    ensures { result ≡ range_count rules.now }
+/// Appends ` NAME N`.
+#[tactic(auto, unfolding(crate::specs::Answers::count))]
+fn write_count(line: &mut String, name: &str, number: u64) -> Result<(), AllocError>
+    ensures { OnOk result (string_bytes line.new ≡ string_bytes line.old ++ count name.now number) }
 {
-    let mut count = 0u64;
-    for rule in rules.vips.as_slice() {
-        count += u64::from(rules.count(rule.vip));
-    }
-    count
+    write!(line, " {name} {number}")
+}
+
+/// The line of these numbers.
+fn counts_line(alloc: Global, counts: &Counts, ranges: u64) -> Result<String, AllocError>
+    ensures { IfOk result (λ line. string_bytes line ≡ counts_line counts.now ranges) }
+{
+    let mut line = String::from_str(alloc, "ok replicas 5")?;
+    write_count(&mut line, "muxes", counts.muxes)?;
+    write_count(&mut line, "agents", counts.agents)?;
+    write_count(&mut line, "machines", counts.machines)?;
+    write_count(&mut line, "vips", counts.vips)?;
+    write_count(&mut line, "ranges", ranges)?;
+    line.push_str("\n")?;
+    Ok(line)
 }
 
 /// The line of a configuration that keeps every rule.
 fn summary(alloc: Global, config: &Config) -> Result<String, AllocError>
     ensures { IfOk result (λ line. string_bytes line ≡ summary config.now) }
 {
-    let rules = config.lease_rules(alloc)?;
-    let ranges = count_ranges(&rules);
-    let muxes = config.muxes().len();
-    let agents = config.agents().len();
-    let machines = config.machine_count();
-    let vips = config.vips().len();
-    format!(in alloc;
-        "ok replicas 5 muxes {muxes} agents {agents} machines {machines} vips {vips} ranges {ranges}\n")
+    let ranges = config.ranges(alloc)?;
+    counts_line(alloc, &config.counts(), ranges)
 }
 
 /// What `check` answers: the line of a configuration, or the path of its first fault.
