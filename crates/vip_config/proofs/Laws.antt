@@ -110,9 +110,9 @@ module _ {A K V Y : Type 0} (mark : Y → K) (f : ℕ → A → List (Claim K V)
   in_marks i [] y h = h
   in_marks i (x ∷ xs) y h =
       subst (In (mark y)) (sym (map-append (λ c. c.key) (f i x) (claims_of f (suc i) xs)))
-      (elim (in_cases (g x) (flat_map g xs) y h)
-      [ inl here ↦ in_left (keys (f i x)) (keys (claims_of f (suc i) xs)) (mark y) (marks i x y here)
-      | inr there ↦ in_right (keys (f i x)) (keys (claims_of f (suc i) xs)) (mark y) (in_marks (suc i) xs y there)
+      (elim (in_cases (g x) (flat_map g xs) y h) [
+        | inl here ↦ in_left (keys (f i x)) (keys (claims_of f (suc i) xs)) (mark y) (marks i x y here)
+        | inr there ↦ in_right (keys (f i x)) (keys (claims_of f (suc i) xs)) (mark y) (in_marks (suc i) xs y there)
       ])
 
   pub once_marks : ((i : ℕ) (x : A) → Once (keys (f i x)) → Once (g x)) → (i : ℕ) (xs : List A) → Once (keys (claims_of f i xs)) → Once (flat_map g xs)
@@ -125,10 +125,10 @@ module _ {A K V Y : Type 0} (mark : Y → K) (f : ℕ → A → List (Claim K V)
 
 -- ---- sockets and machines
 
-own_address : (a : Ip4) → same_address a a ≡ true
+pub own_address : (a : Ip4) → same_address a a ≡ true
 own_address a = grind (arith, nat_tests)
 
-own_socket : (a : Socket) → same_socket a a ≡ true
+pub own_socket : (a : Socket) → same_socket a a ≡ true
 own_socket a = grind (arith, nat_tests)
 
 flat_single : {X : Type 0} (xs : List X) → flat_map (λ x. x ∷ []) xs ≡ xs
@@ -159,7 +159,7 @@ socket_keys c =
     ++ (keys_claims mux_claims (λ socket. socket ∷ []) (λ i socket. refl) 0 c.muxes ∙ flat_single c.muxes) t
     ++ keys_claims agent_claims agent_sockets agent_keys 0 c.agents t))
 
-owner_keys : {K V : Type 0} (cs : List (Claim K V)) → keys_of (owners_of cs) ≡ keys cs
+pub owner_keys : {K V : Type 0} (cs : List (Claim K V)) → keys_of (owners_of cs) ≡ keys cs
 owner_keys [] = refl
 owner_keys (c ∷ cs) = ap (λ l. c.key ∷ l) (owner_keys cs)
 
