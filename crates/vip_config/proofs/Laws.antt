@@ -20,7 +20,14 @@ use Rattle.vip_config.specs.Configs.{broken_rule, parts_of, shared_machine, shar
 use Rattle.std.specs.Prelude.{unwrap_or}
 use Rattle.vip_config.specs.Leases.{all_machine_rules, lease_rules_of, machine_rule, machine_rules, rules_of, vip_rule}
 use Rattle.vip_config.specs.Machines.{agent_of, address_claims, agent_address_claims, is_machine, machine_claims, machines_of, same_address}
-use Rattle.vip_config.specs.Rules.{HasLengths, HasRanges, KeepsRules, Once, agent_sockets, all_machines, all_snat, all_sockets}
+use Rattle.wire_core.specs.declared.flow.Proto.{Proto}
+use Rattle.wire_core.specs.declared.flow.Proto.TheVariants.{Tcp, Udp}
+use Rattle.config_text.specs.declared.vips.Endpoint.{Endpoint}
+use Rattle.config_text.specs.declared.vips.Member.{Member}
+use Rattle.vip_config.specs.Endpoints.{endpoint_claims, member_claims, same_endpoint_key, same_proto, vip_endpoint_claims}
+use Rattle.vip_config.specs.declared.endpoints.EndpointKey.{EndpointKey}
+use Rattle.vip_config.specs.declared.endpoints.EndpointKey.TheVariants.{Port, MachinePort, Machine}
+use Rattle.vip_config.specs.Rules.{endpoint_port, machine_ports, members_of, HasLengths, HasRanges, KeepsRules, Once, agent_sockets, all_machines, all_snat, all_sockets}
 use Rattle.vip_config.specs.Snat.{snat_claims, vip_snat_claims}
 use Rattle.vip_config.specs.Sockets.{agent_claims, attach_claims, mux_claims, replica_claims, same_socket, socket_claims}
 use Rattle.vip_config.specs.Vips.{HasPorts, first_wrong_port, is_high, is_low, vip_claims}
@@ -28,7 +35,7 @@ use Rattle.vip_config.specs.Vips as vips
 use Rattle.vip_config.specs.declared.place.Place.{Place}
 use Rattle.vip_config.specs.declared.parts.ConfigParts.{ConfigParts}
 use Rattle.vip_config.specs.declared.parts.VipConf.{VipConf}
-use Rattle.vip_config.proofs.Members.{each_append, each_left, each_right, in_any, in_left, in_right}
+use Rattle.vip_config.proofs.Members.{each_append, each_left, each_right, in_any, in_cases, in_left, in_right, once_apart, once_join, once_left, once_right}
 use Rattle.vip_config.proofs.Walks.{claimed_keys, none_some}
 
 abbrev pub keys : {K V : Type 0} → List (Claim K V) → List K
@@ -86,12 +93,42 @@ each_claims P Q f g each i [] h = tt
 each_claims P Q f g each i (x ∷ xs) h =
     each_append Q (g x) (flat_map g xs) (each i x (each_left P (f i x) (claims_of f (suc i) xs) h)) (each_claims P Q f g each (suc i) xs (each_right P (f i x) (claims_of f (suc i) xs) h))
 
+-- what holds of each member's claims
+pub each_group : {A K V : Type 0} (P : Claim K V → Type 0) (Q : A → Type 0) (f : ℕ → A → List (Claim K V)) → ((i : ℕ) (x : A) → Each P (f i x) → Q x) → (i : ℕ) (xs : List A) → Each P (claims_of f i xs) → Each Q xs
+each_group P Q f each i [] h = tt
+each_group P Q f each i (x ∷ xs) h = (each i x (each_left P (f i x) (claims_of f (suc i) xs) h), each_group P Q f each (suc i) xs (each_right P (f i x) (claims_of f (suc i) xs) h))
+
+pub once_group : {A K V : Type 0} (Q : A → Type 0) (f : ℕ → A → List (Claim K V)) → ((i : ℕ) (x : A) → Once (keys (f i x)) → Q x) → (i : ℕ) (xs : List A) → Once (keys (claims_of f i xs)) → Each Q xs
+once_group Q f each i [] h = tt
+once_group Q f each i (x ∷ xs) h =
+    let both = subst Once (map-append (λ c. c.key) (f i x) (claims_of f (suc i) xs)) h in
+    (each i x (once_left (keys (f i x)) (keys (claims_of f (suc i) xs)) both), once_group Q f each (suc i) xs (once_right (keys (f i x)) (keys (claims_of f (suc i) xs)) both))
+
+-- what claims a key stands once where the keys do
+module _ {A K V Y : Type 0} (mark : Y → K) (f : ℕ → A → List (Claim K V)) (g : A → List Y) (marks : (i : ℕ) (x : A) (y : Y) → In y (g x) → In (mark y) (keys (f i x))) where
+  pub in_marks : (i : ℕ) (xs : List A) (y : Y) → In y (flat_map g xs) → In (mark y) (keys (claims_of f i xs))
+  in_marks i [] y h = h
+  in_marks i (x ∷ xs) y h =
+      subst (In (mark y)) (sym (map-append (λ c. c.key) (f i x) (claims_of f (suc i) xs)))
+      (elim (in_cases (g x) (flat_map g xs) y h) [
+        | inl here ↦ in_left (keys (f i x)) (keys (claims_of f (suc i) xs)) (mark y) (marks i x y here)
+        | inr there ↦ in_right (keys (f i x)) (keys (claims_of f (suc i) xs)) (mark y) (in_marks (suc i) xs y there)
+      ])
+
+  pub once_marks : ((i : ℕ) (x : A) → Once (keys (f i x)) → Once (g x)) → (i : ℕ) (xs : List A) → Once (keys (claims_of f i xs)) → Once (flat_map g xs)
+  once_marks each i [] h = tt
+  once_marks each i (x ∷ xs) h =
+      let both = subst Once (map-append (λ c. c.key) (f i x) (claims_of f (suc i) xs)) h in
+      once_join (g x) (flat_map g xs) (each i x (once_left (keys (f i x)) (keys (claims_of f (suc i) xs)) both))
+      (once_marks each (suc i) xs (once_right (keys (f i x)) (keys (claims_of f (suc i) xs)) both))
+      (λ y here there. once_apart (keys (f i x)) (keys (claims_of f (suc i) xs)) (mark y) both (marks i x y here) (in_marks (suc i) xs y there))
+
 -- ---- sockets and machines
 
-own_address : (a : Ip4) → same_address a a ≡ true
+pub own_address : (a : Ip4) → same_address a a ≡ true
 own_address a = grind (arith, nat_tests)
 
-own_socket : (a : Socket) → same_socket a a ≡ true
+pub own_socket : (a : Socket) → same_socket a a ≡ true
 own_socket a = grind (arith, nat_tests)
 
 flat_single : {X : Type 0} (xs : List X) → flat_map (λ x. x ∷ []) xs ≡ xs
@@ -122,7 +159,7 @@ socket_keys c =
     ++ (keys_claims mux_claims (λ socket. socket ∷ []) (λ i socket. refl) 0 c.muxes ∙ flat_single c.muxes) t
     ++ keys_claims agent_claims agent_sockets agent_keys 0 c.agents t))
 
-owner_keys : {K V : Type 0} (cs : List (Claim K V)) → keys_of (owners_of cs) ≡ keys cs
+pub owner_keys : {K V : Type 0} (cs : List (Claim K V)) → keys_of (owners_of cs) ≡ keys cs
 owner_keys [] = refl
 owner_keys (c ∷ cs) = ap (λ l. c.key ∷ l) (owner_keys cs)
 
@@ -178,6 +215,71 @@ pub has_ports : (xs : List VipText) → Each HasRanges (map vip_conf_of xs) → 
 has_ports [] h = tt
 has_ports (x ∷ xs) h = ((omega (arith, h.0.order, h.0.below), omega (arith, h.0.below)), has_ports xs h.1)
 
+-- ---- endpoints
+
+own_proto : (p : Proto) → same_proto p p ≡ true
+own_proto Tcp = refl
+own_proto Udp = refl
+
+own_key : (k : EndpointKey) → same_endpoint_key k k ≡ true
+own_key (Port v p n) = let proto = own_proto p in grind (arith, nat_tests, proto)
+own_key (MachinePort p a n) = let proto = own_proto p in grind (arith, nat_tests, proto)
+own_key (Machine v e a) = grind (arith, nat_tests)
+
+alone : {X : Type 0} (x : X) → Once (x ∷ [])
+alone x = (λ i. i, tt)
+
+each_vip : (P : VipConf → Type 0) (xs : List VipText) → Each (λ vip. P (vip_conf_of vip)) xs → Each P (map vip_conf_of xs)
+each_vip P [] h = tt
+each_vip P (x ∷ xs) h = (h.0, each_vip P xs h.1)
+
+module _ (machines : List (Ip4 × ℕ)) where
+  ports_once : (i : ℕ) (vip : VipText) → Once (keys (vip_endpoint_claims machines i vip)) → Once (map endpoint_port vip.endpoints)
+  ports_once i vip h =
+      subst Once (flat_of endpoint_port vip.endpoints)
+      (once_marks (λ p. Port i p.0 p.1) (endpoint_claims machines i) (λ e. endpoint_port e ∷ [])
+      (λ j e y there. elim there [ inl is ↦ inl (ap (λ p. Port i p.0 p.1) is) | inr none ↦ absurd none ])
+      (λ j e h. alone (endpoint_port e)) 0 vip.endpoints h)
+
+  members_once : (i j : ℕ) (e : Endpoint) → Once (keys (endpoint_claims machines i j e)) → Once (members_of e)
+  members_once i j e h =
+      subst Once (flat_of (λ member. member.address) e.machines)
+      (once_marks (λ a. Machine i j a) (member_claims machines i j e.proto) (λ member. member.address ∷ [])
+      (λ k member y there. elim there [ inl is ↦ inr (inl (ap (λ a. Machine i j a) is)) | inr none ↦ absurd none ])
+      (λ k member h. alone member.address) 0 e.machines h.1)
+
+  member_marks : (i j : ℕ) (p : Proto) (k : ℕ) (member : Member) (y : Proto × Ip4 × ℕ) → In y ((p, member.address, member.port) ∷ []) → In (MachinePort y.0 y.1 y.2) (keys (member_claims machines i j p k member))
+  member_marks i j p k member y there = elim there [ inl is ↦ inl (ap (λ (q : Proto × Ip4 × ℕ). MachinePort q.0 q.1 q.2) is) | inr none ↦ absurd none ]
+
+  endpoint_marks : (i j : ℕ) (e : Endpoint) (y : Proto × Ip4 × ℕ) → In y (machine_ports e) → In (MachinePort y.0 y.1 y.2) (keys (endpoint_claims machines i j e))
+  endpoint_marks i j e y there =
+      inr (in_marks (λ (q : Proto × Ip4 × ℕ). MachinePort q.0 q.1 q.2) (member_claims machines i j e.proto) (λ member. (e.proto, member.address, member.port) ∷ [])
+      (member_marks i j e.proto) 0 e.machines y (subst (In y) (sym (flat_of (λ member. (e.proto, member.address, member.port)) e.machines)) there))
+
+  endpoint_once : (i j : ℕ) (e : Endpoint) → Once (keys (endpoint_claims machines i j e)) → Once (machine_ports e)
+  endpoint_once i j e h =
+      subst Once (flat_of (λ member. (e.proto, member.address, member.port)) e.machines)
+      (once_marks (λ (q : Proto × Ip4 × ℕ). MachinePort q.0 q.1 q.2) (member_claims machines i j e.proto) (λ member. (e.proto, member.address, member.port) ∷ [])
+      (member_marks i j e.proto) (λ k member h. alone {X = Proto × Ip4 × ℕ} (e.proto, member.address, member.port)) 0 e.machines h.1)
+
+  vip_marks : (i : ℕ) (vip : VipText) (y : Proto × Ip4 × ℕ) → In y (flat_map machine_ports vip.endpoints) → In (MachinePort y.0 y.1 y.2) (keys (vip_endpoint_claims machines i vip))
+  vip_marks i vip y there = in_marks (λ (q : Proto × Ip4 × ℕ). MachinePort q.0 q.1 q.2) (endpoint_claims machines i) machine_ports (endpoint_marks i) 0 vip.endpoints y there
+
+  vip_once : (i : ℕ) (vip : VipText) → Once (keys (vip_endpoint_claims machines i vip)) → Once (flat_map machine_ports vip.endpoints)
+  vip_once i vip h = once_marks (λ (q : Proto × Ip4 × ℕ). MachinePort q.0 q.1 q.2) (endpoint_claims machines i) machine_ports (endpoint_marks i) (endpoint_once i) 0 vip.endpoints h
+
+  all_once : (xs : List VipText) → Once (keys (claims_of (vip_endpoint_claims machines) 0 xs)) → Once (flat_map (λ vip. flat_map machine_ports vip.endpoints) xs)
+  all_once xs h = once_marks (λ (q : Proto × Ip4 × ℕ). MachinePort q.0 q.1 q.2) (vip_endpoint_claims machines) (λ vip. flat_map machine_ports vip.endpoints) vip_marks vip_once 0 xs h
+
+  members_fit : (P : Ip4 → Type 0) → ((a : Ip4) → is_machine machines a ≡ true → P a) → (i j : ℕ) (e : Endpoint) → Each (λ c. c.fits ≡ true) (endpoint_claims machines i j e) → Each P (members_of e)
+  members_fit P there i j e h =
+      subst (Each P) (flat_of (λ member. member.address) e.machines)
+      (each_claims (λ c. c.fits ≡ true) P (member_claims machines i j e.proto) (λ member. member.address ∷ []) (λ k member h. (there member.address h.1.0, tt)) 0 e.machines h.1)
+
+same_machine_ports : (xs : List VipText) → flat_map (λ vip. flat_map machine_ports vip.endpoints) xs ≡ flat_map (λ vip. flat_map machine_ports vip.endpoints) (map vip_conf_of xs)
+same_machine_ports [] = refl
+same_machine_ports (x ∷ xs) = ap (λ l. flat_map machine_ports x.endpoints ++ l) (same_machine_ports xs)
+
 -- ---- all the rules
 
 not_true : (b : Bool) → not b ≡ true → b ≡ false
@@ -195,6 +297,8 @@ keeps_rules s none =
     let of_ports = none_right (shared_vip machines s.vips) _ of_vips in
     let of_snat = none_right (wrong_port s.vips) _ of_ports in
     let snat = clean same_address own_address [] (claims_of (vip_snat_claims machines) 0 s.vips) (none_left (wrong_snat machines s.vips) _ of_snat) in
+    let endpoints = clean same_endpoint_key own_key [] (claims_of (vip_endpoint_claims machines) 0 s.vips) (none_right (wrong_snat machines s.vips) _ of_snat) in
+    let there : Ip4 → Type 0 = λ a. In a (all_machines (parts_of s)) in
     let snat_of = λ (i : ℕ) (vip : VipText). keys_claims (snat_claims machines i) (λ a. a ∷ []) (λ j a. refl) 0 vip.snat ∙ flat_single vip.snat in
     record {
       sockets = subst Once (socket_keys (parts_of s)) sockets.once;
@@ -216,6 +320,19 @@ keeps_rules s none =
           (each_claims (λ c. c.fits ≡ true) (λ a. In a (all_machines (parts_of s))) (snat_claims machines i) (λ a. a ∷ [])
           (λ j a h. (any_in a (all_machines (parts_of s)) (sym (machine_test s.agents a) ∙ h.0), tt)) 0 vip.snat h))
           0 s.vips snat.fit);
+      ports = each_vip (λ vip. Once (map endpoint_port vip.endpoints)) s.vips (once_group (λ vip. Once (map endpoint_port vip.endpoints)) (vip_endpoint_claims machines) (ports_once machines) 0 s.vips endpoints.once);
+      members =
+          each_vip (λ vip. Each (λ e. Once (members_of e)) vip.endpoints) s.vips
+          (once_group (λ vip. Each (λ e. Once (members_of e)) vip.endpoints) (vip_endpoint_claims machines)
+          (λ i vip h. once_group (λ e. Once (members_of e)) (endpoint_claims machines i) (members_once machines i) 0 vip.endpoints h) 0 s.vips endpoints.once);
+      members_machines =
+          each_vip (λ vip. Each (λ e. Each there (members_of e)) vip.endpoints) s.vips
+          (each_group (λ c. c.fits ≡ true) (λ vip. Each (λ e. Each there (members_of e)) vip.endpoints) (vip_endpoint_claims machines)
+          (λ i vip h.
+          each_group (λ c. c.fits ≡ true) (λ e. Each there (members_of e)) (endpoint_claims machines i)
+          (members_fit machines there (λ a is. any_in a (all_machines (parts_of s)) (sym (machine_test s.agents a) ∙ is)) i) 0 vip.endpoints h)
+          0 s.vips endpoints.fit);
+      machine_ports = subst Once (same_machine_ports s.vips) (all_once machines s.vips endpoints.once);
     }
 
 length-map : {A B : Type 0} (f : A → B) (xs : List A) → length (map f xs) ≡ length xs

@@ -35,6 +35,12 @@ all_vips c = map (λ vip. vip.address) c.vips
 abbrev pub all_snat : ConfigParts → List Ip4
 all_snat c = flat_map (λ vip. vip.snat) c.vips
 
+abbrev pub endpoint_port : Endpoint → Proto × ℕ
+endpoint_port endpoint = (endpoint.proto, endpoint.port)
+
+abbrev pub members_of : Endpoint → List Ip4
+members_of endpoint = map (λ member. member.address) endpoint.machines
+
 -- the protocol, address and port of each machine of an endpoint
 abbrev pub machine_ports : Endpoint → List (Proto × Ip4 × ℕ)
 machine_ports endpoint = map (λ member. (endpoint.proto, member.address, member.port)) endpoint.machines
@@ -59,6 +65,10 @@ pub record KeepsRules (c : ConfigParts) : Type 0 where
   pub ranges : Each HasRanges c.vips
   pub snat : Once (all_snat c)
   pub snat_machines : Each (λ address. In address (all_machines c)) (all_snat c)
+  pub ports : Each (λ vip. Once (map endpoint_port vip.endpoints)) c.vips
+  pub members : Each (λ vip. Each (λ endpoint. Once (members_of endpoint)) vip.endpoints) c.vips
+  pub members_machines : Each (λ vip. Each (λ endpoint. Each (λ address. In address (all_machines c)) (members_of endpoint)) vip.endpoints) c.vips
+  pub machine_ports : Once (all_machine_ports c)
 
 -- how long the lists are
 pub record HasLengths (c : ConfigParts) : Type 0 where

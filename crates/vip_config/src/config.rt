@@ -6,8 +6,8 @@ ghost use Rattle.vip_config.specs.Configs.{broken_rule, checked, config_of, part
 ghost use Rattle.vip_config.specs.Leases.{lease_rules_of, ranges_of};
 ghost use Rattle.vip_config.specs.Machines.{agent_of, machines_of};
 ghost use Rattle.vip_config.specs.Places.{path};
-ghost use Rattle.vip_config.specs.Queries.{counts_of, socket_of, who_of};
-ghost use Rattle.vip_config.specs.Rules.{Once};
+ghost use Rattle.vip_config.specs.Queries.{KnowsOwners, counts_of, socket_of, who_of};
+ghost use Rattle.vip_config.specs.Rules.{HasLengths, KeepsRules, Once};
 ghost use Rattle.vip_config.specs.Sockets.{socket_claims};
 ghost use Rattle.vip_config.specs.declared.parts.ConfigParts as parts;
 ghost use Rattle.wire_core.specs.Members.{Each};
@@ -97,6 +97,16 @@ impl Config {
     {
         let settings = Settings::read(alloc, bytes)?;
         check(alloc, settings)
+    }
+
+    /// Every configuration keeps the rules, its lists have their lengths, and it knows whose each socket and each machine
+    /// is. It does nothing else than to say so.
+    pub fn keeps_rules(&self)
+        ensures rules { KeepsRules self.now }
+        ensures lengths { HasLengths self.now }
+        ensures owners { KnowsOwners self.now }
+    {
+        let _ = &self.parts;
     }
 
     /// 1.
