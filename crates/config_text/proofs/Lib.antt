@@ -1,0 +1,4 @@
+mod Json
+mod Lists
+mod Sized
+mod Unlisted

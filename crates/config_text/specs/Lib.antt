@@ -1,0 +1,4 @@
+pub mod Faults
+pub mod Members
+pub mod Form
+pub mod Sizes

@@ -1,0 +1,5 @@
+pub mod Walks
+pub mod Members
+pub mod Laws
+pub mod Loops
+pub mod Owners

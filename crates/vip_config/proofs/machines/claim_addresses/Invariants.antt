@@ -1,0 +1,7 @@
+use Rattle.std.proofs.Common.{◌≡◌, take}
+use Rattle.vip_config.specs.Claims.{all_claimed, claims_of}
+use Rattle.vip_config.specs.Machines.{address_claims, same_address}
+use Rattle.vip_config.proofs.machines.claim_addresses.Given as goal
+
+abbrev pub invariant-loop-j : goal.invariant-loop-j
+invariant-loop-j l = l.walk ≡ all_claimed same_address l.fn.walk (claims_of (address_claims l.agent) 0 (take l.j l.machines))

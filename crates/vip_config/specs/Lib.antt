@@ -1,0 +1,11 @@
+pub mod Places
+pub mod Claims
+pub mod Sockets
+pub mod Machines
+pub mod Vips
+pub mod Snat
+pub mod Endpoints
+pub mod Configs
+pub mod Rules
+pub mod Queries
+pub mod Leases
