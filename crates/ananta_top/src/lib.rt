@@ -5,16 +5,24 @@
 //! |---|---|
 //! | `streams` | reads a source to its end, writes all of a text |
 //! | `words` | which job the words name |
-//! | `top` | the job, and what is told about it |
+//! | `answers` | what each job answers to a text |
+//! | `check` | the command `check` |
+//! | `refusal`, `ending` | why a text has no answer, how a run ends, what is told about it |
+//! | `top` | the whole: words, input, job, answer |
 //!
 //! The caller makes the real objects: everything outside is behind the traits of `outside_io`.
 #![tactic(auto)]
 
+mod answers;
+mod check;
+mod ending;
+mod refusal;
 mod streams;
 mod top;
 mod words;
 
-pub use top::{Status, run};
+pub use ending::Status;
+pub use top::run;
 
 #[cfg(test)]
 mod tests;

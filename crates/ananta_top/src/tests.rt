@@ -13,6 +13,14 @@ const LEASES: &[u8] =
 const LEASED: &[u8] =
     b"leased 1 1024\nleased 17 1032\nexhausted 33\nfreed 17\nunknown 17\nleased 65 1032\n";
 
+/// A configuration of one mux, one agent with one machine, and one VIP.
+const SMALL: &str =
+    r#"{"version":1,"router":"10.7.0.1:7000","replicas":["10.0.0.1:7000","10.0.0.2:7000","10.0.0.3:7000","10.0.0.4:7000","10.0.0.5:7000"],"muxes":["10.9.0.1:7000"],"agents":[{"socket":"10.8.0.1:7000","machines":[{"address":"10.1.0.4","attach":"10.1.0.4:9000"}]}],"vips":[{"address":"192.0.2.10","low":1024,"high":65535,"snat":["10.1.0.4"],"endpoints":[]}],"limit":16,"timers":{"lead_silent":1000,"mux_silent":5000,"ask_retry":500,"flow_idle":60000,"range_idle":30000}}"#;
+
+/// A configuration of two muxes, two agents with one machine each, and one VIP.
+const TWO_MUXES: &str =
+    r#"{"version":1,"router":"10.7.0.1:7000","replicas":["10.0.0.1:7000","10.0.0.2:7000","10.0.0.3:7000","10.0.0.4:7000","10.0.0.5:7000"],"muxes":["10.9.0.1:7000","10.9.0.2:7000"],"agents":[{"socket":"10.8.0.1:7000","machines":[{"address":"10.1.0.4","attach":"10.1.0.4:9000"}]},{"socket":"10.8.0.2:7000","machines":[{"address":"10.1.0.5","attach":"10.1.0.5:9000"}]}],"vips":[{"address":"192.0.2.10","low":1024,"high":1087,"snat":["10.1.0.4","10.1.0.5"],"endpoints":[]}],"limit":16,"timers":{"lead_silent":1000,"mux_silent":5000,"ask_retry":500,"flow_idle":60000,"range_idle":30000}}"#;
+
 /// How a run ended, and what stands on its two sinks.
 #[derive(Drop)]
 struct Ran {
@@ -43,6 +51,19 @@ fn run_over<S: Source>(
 fn replay(alloc: Global, text: &[u8]) -> Result<Ran, AllocError> {
     let mut input = MemSource::new(text.to_vec(alloc)?, Vec::new(alloc));
     run_over(alloc, "replay", &mut input, &[])
+}
+
+fn check(alloc: Global, text: &[u8]) -> Result<Ran, AllocError> {
+    let mut input = MemSource::new(text.to_vec(alloc)?, Vec::new(alloc));
+    run_over(alloc, "check", &mut input, &[])
+}
+
+/// The small configuration with the first of this text replaced.
+fn small_with(alloc: Global, old: &str, new: &str) -> Result<String, AllocError> {
+    match SMALL.split_once(old) {
+        Some((front, rest)) => format!(in alloc; "{front}{new}{rest}"),
+        None => Ok(String::new(alloc)),
+    }
 }
 
 /// A source that gives so many bytes, all of them `x`.
@@ -76,9 +97,55 @@ fn the_worked_schedule(rt: HostRuntime) -> Result<(), Fail> {
 }
 
 #[test]
+fn configurations(rt: HostRuntime) -> Result<(), Fail> {
+    let alloc = rt.alloc();
+    let served =
+        "[{\"proto\":\"udp\",\"port\":1026,\"machines\":[{\"address\":\"10.1.0.4\",\"port\":53}]}]";
+    let with_endpoint = small_with(alloc, "[]", served)?;
+    for (text, line) in [
+        (
+            SMALL,
+            "ok replicas 5 muxes 1 agents 1 machines 1 vips 1 ranges 8064\n",
+        ),
+        (
+            TWO_MUXES,
+            "ok replicas 5 muxes 2 agents 2 machines 2 vips 1 ranges 8\n",
+        ),
+        (
+            with_endpoint.as_str(),
+            "ok replicas 5 muxes 1 agents 1 machines 1 vips 1 ranges 8063\n",
+        ),
+    ] {
+        let ran = check(alloc, text.as_bytes())?;
+        assert_eq!(rt; ran.status, Status::Done, "{text}");
+        assert_eq!(rt; ran.out.bytes(), line.as_bytes(), "{text}");
+        assert_eq!(rt; ran.err.bytes().len(), 0);
+    }
+    Ok(())
+}
+
+#[test]
+fn bad_configurations(rt: HostRuntime) -> Result<(), Fail> {
+    let alloc = rt.alloc();
+    for (old, new, line) in [
+        ("{\"version\"", "\"version\"", "config json\n"),
+        ("\"low\":1024", "\"low\":1025", "config vips[0].low\n"),
+        ("10.9.0.1:7000", "10.0.0.5:7000", "config muxes[0]\n"),
+        ("\"limit\":16", "\"limit\":0", "config limit\n"),
+    ] {
+        let text = small_with(alloc, old, new)?;
+        let ran = check(alloc, text.as_bytes())?;
+        assert_eq!(rt; ran.status, Status::BadConfig, "{new}");
+        assert_eq!(rt; ran.err.bytes(), line.as_bytes(), "{new}");
+        assert_eq!(rt; ran.out.bytes().len(), 0);
+    }
+    Ok(())
+}
+
+#[test]
 fn words_of_no_form(rt: HostRuntime) -> Result<(), Fail> {
     let alloc = rt.alloc();
-    for word in ["", "Replay", "replay ", "--help", "check"] {
+    for word in ["", "Replay", "replay ", "--help", "checks"] {
         let mut input = MemSource::new(LEASES.to_vec(alloc)?, Vec::new(alloc));
         let ran = run_over(alloc, word, &mut input, &[])?;
         assert_eq!(rt; ran.status, Status::Usage, "{word:?}");
