@@ -12,7 +12,7 @@ use Rattle.wire_core.specs.declared.address.Socket.{Socket}
 use Rattle.config_text.specs.declared.agents.AgentConf.{AgentConf}
 use Rattle.config_text.specs.declared.settings.Settings.{Settings}
 use Rattle.config_text.specs.declared.vips.VipText.{VipText}
-use Rattle.config_text.specs.Sizes.{IsSized}
+use Rattle.config_text.specs.Sizes.{HasLength, IsSized, IsSizedVip}
 use Rattle.std.specs.Prelude.{Result}
 use Rattle.vip_config.specs.declared.broken.Broken.{Broken}
 use Rattle.vip_config.specs.Claims.{Claim, Tells, claims_of, first_broken, owners_of}
@@ -335,17 +335,27 @@ keeps_rules s none =
       machine_ports = subst Once (same_machine_ports s.vips) (all_once machines s.vips endpoints.once);
     }
 
+each_on : {X : Type 0} (P Q : X → Type 0) → ((x : X) → P x → Q x) → (xs : List X) → Each P xs → Each Q xs
+each_on P Q f [] h = tt
+each_on P Q f (x ∷ xs) h = (f x h.0, each_on P Q f xs h.1)
+
 length-map : {A B : Type 0} (f : A → B) (xs : List A) → length (map f xs) ≡ length xs
 length-map f [] = refl
 length-map f (x ∷ xs) = ap suc (length-map f xs)
 
 pub has_lengths : (s : Settings) → IsSized s → HasLengths (parts_of s)
-has_lengths s sized = record {
-  replicas = sized.replicas;
-  muxes = sized.muxes;
-  agents = sized.agents;
-  vips = let same = length-map vip_conf_of s.vips in (rw same sized.vips.0, rw same sized.vips.1);
-}
+has_lengths s sized =
+    let of_vip = λ (P : VipConf → Type 0) (f : (v : VipText) → IsSizedVip v → P (vip_conf_of v)). each_vip P s.vips (each_on IsSizedVip (λ v. P (vip_conf_of v)) f s.vips sized.of_vips) in
+    record {
+      replicas = sized.replicas;
+      muxes = sized.muxes;
+      agents = sized.agents;
+      machines = sized.of_agents;
+      vips = let same = length-map vip_conf_of s.vips in (rw same sized.vips.0, rw same sized.vips.1);
+      snat = of_vip (λ vip. HasLength 0 4096 vip.snat) (λ v h. h.snat);
+      endpoints = of_vip (λ vip. HasLength 0 1024 vip.endpoints) (λ v h. h.endpoints);
+      members = of_vip (λ vip. Each (λ endpoint. HasLength 1 64 endpoint.machines) vip.endpoints) (λ v h. h.members);
+    }
 
 pub told : {X : Type 0} (a b v : Option Place) (r : Result X Broken) → a ≡ None → b ≡ None → Tells v r → Tells (option_or a (option_or b v)) r
 told None None v r is_a is_b h = h
@@ -394,10 +404,6 @@ all_named machines (x ∷ xs) h =
     each_append (λ rule. agent_of machines rule.machine ≡ Some rule.agent) (machine_rules machines x) (all_machine_rules machines xs)
     (named machines x.address x.snat (each_left (λ a. is_machine machines a ≡ true) x.snat (flat_map (λ vip. vip.snat) xs) h))
     (all_named machines xs (each_right (λ a. is_machine machines a ≡ true) x.snat (flat_map (λ vip. vip.snat) xs) h))
-
-each_on : {X : Type 0} (P Q : X → Type 0) → ((x : X) → P x → Q x) → (xs : List X) → Each P xs → Each Q xs
-each_on P Q f [] h = tt
-each_on P Q f (x ∷ xs) h = (f x h.0, each_on P Q f xs h.1)
 
 pub rules_agents : (c : ConfigParts) → KeepsRules c → Each (λ rule. agent_of (machines_of c.agents) rule.machine ≡ Some rule.agent) (lease_rules_of c).machines
 rules_agents c keeps =

@@ -75,7 +75,11 @@ pub record HasLengths (c : ConfigParts) : Type 0 where
   pub replicas : length c.replicas ≡ 5
   pub muxes : HasLength 1 16 c.muxes
   pub agents : HasLength 1 256 c.agents
+  pub machines : Each (λ agent. HasLength 1 64 agent.machines) c.agents
   pub vips : HasLength 1 64 c.vips
+  pub snat : Each (λ vip. HasLength 0 4096 vip.snat) c.vips
+  pub endpoints : Each (λ vip. HasLength 0 1024 vip.endpoints) c.vips
+  pub members : Each (λ vip. Each (λ endpoint. HasLength 1 64 endpoint.machines) vip.endpoints) c.vips
 
 -- The parts keep the rules, and the index has each socket's and each machine's owner.
 pub record IsConfig (c : ConfigParts) (sockets : List (Socket × Who)) (machines : List (Ip4 × ℕ)) : Type 0 where
