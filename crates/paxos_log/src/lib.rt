@@ -1,0 +1,18 @@
+//! The laws of agreement: no slot of the log has two values, whatever happens.
+//!
+//! | subject | where |
+//! |---|---|
+//! | five replicas, their messages, what may happen next | `specs/World` |
+//! | what holds of every world | `specs/Facts` |
+//! | one step of one replica, and what it owes | `specs/Steps` |
+//! | the laws for a larger world | `specs/Laws` |
+//!
+//! [`agreement`] says it of every list of events. [`order`], [`each_step`] and [`lasting`] say it of any view and one step of
+//! one replica, so that a world in which more happens takes it over step by step.
+#![tactic(auto)]
+
+mod event;
+mod laws;
+
+pub use event::{PaxosEvent, Post};
+pub use laws::{agreement, each_step, lasting, order};
