@@ -8,3 +8,4 @@ pub mod More
 pub mod Claims
 pub mod Logs
 pub mod Runs
+pub mod WorkedRuns

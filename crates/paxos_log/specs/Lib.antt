@@ -1,4 +1,5 @@
 pub mod Facts
 pub mod Steps
 pub mod Laws
+pub mod WorkedRuns
 pub mod World

@@ -1,5 +1,6 @@
 ghost use Rattle.std.specs.Prelude.{List};
 ghost use Rattle.paxos_log.specs.Laws.{CampaignIsGood, CandidacyIsGood, ChoosableShrinks, ChosenLasts, DownIsGood, InOrderClaims, Keeps, MessageIsGood, OfferIsGood, ReopeningIsGood, ResendIsGood, SayingIsGood, SealBounds, SealLasts, StepGrows, ValuesTravel};
+ghost use Rattle.paxos_log.specs.WorkedRuns.{CatchingRun, ChosenRun, InheritedRun, InheritingRun, NothingRun};
 ghost use Rattle.paxos_log.specs.World.{run, start, view};
 ghost use Rattle.paxos_log.specs.declared.event.PaxosEvent.{PaxosEvent};
 ghost use Rattle.paxos_spec.specs.Agreement.{Agrees, IsBeginning, LearnsChosen, LogsAgree, OwnerLearned, PrimaryKnows, PrimaryLog, PrimarySeal};
@@ -48,4 +49,14 @@ pub fn lasting()
     ensures seal { SealLasts }
     ensures bounds { SealBounds }
     ensures travel { ValuesTravel }
+{}
+
+/// Agreement isn't kept by doing nothing: in a run a value is chosen, in one it is inherited at ballot 6 and then chosen,
+/// and in one a new primary catches up first. The delivery of a message that was never sent changes nothing.
+pub fn worked_runs()
+    ensures chosen { ChosenRun }
+    ensures inheriting { InheritingRun }
+    ensures inherited { InheritedRun }
+    ensures catching { CatchingRun }
+    ensures nothing { NothingRun }
 {}

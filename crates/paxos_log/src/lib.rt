@@ -6,6 +6,7 @@
 //! | what holds of every world | `specs/Facts` |
 //! | one step of one replica, and what it owes | `specs/Steps` |
 //! | the laws for a larger world | `specs/Laws` |
+//! | runs to look at | `specs/WorkedRuns` |
 //!
 //! [`agreement`] says it of every list of events. [`order`], [`each_step`] and [`lasting`] say it of any view and one step of
 //! one replica, so that a world in which more happens takes it over step by step.
@@ -15,4 +16,4 @@ mod event;
 mod laws;
 
 pub use event::{PaxosEvent, Post};
-pub use laws::{agreement, each_step, lasting, order};
+pub use laws::{agreement, each_step, lasting, order, worked_runs};
