@@ -17,3 +17,8 @@ value_of vote = if vote.ballot == 0 then None else Some vote.value
 abbrev pub cast : ℕ → Option Value → Cast
 cast ballot None = no_vote
 cast ballot (Some value) = if ballot == 0 then no_vote else record { ballot = ballot; value = value }
+
+-- a vote as it is kept
+abbrev pub vote_seen : Option Cast → Cast
+vote_seen None = no_vote
+vote_seen (Some vote) = vote
