@@ -9,7 +9,8 @@ use Rattle.paxos_spec.specs.declared.steps.AcceptStep.{AcceptStep}
 use Rattle.paxos_spec.specs.declared.steps.AcceptStep.TheVariants as accept
 use Rattle.paxos_spec.specs.declared.steps.ChosenStep.{ChosenStep}
 use Rattle.paxos_spec.specs.declared.steps.ChosenStep.TheVariants as chosen
-use Rattle.paxos_spec.specs.Votes.{Value, Cast, no_vote}
+use Rattle.paxos_spec.specs.declared.cast.Cast.{Cast}
+use Rattle.paxos_spec.specs.Votes.{Value, no_vote}
 
 pub record AcceptorState : Type 0 where
   pub promise : ℕ  -- it follows no lower ballot

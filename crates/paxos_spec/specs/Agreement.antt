@@ -4,7 +4,8 @@ use Rattle.wire_core.specs.declared.entry.Entry.{Entry}
 use Rattle.wire_core.specs.declared.entry.Entry.TheVariants as entry
 use Rattle.paxos_spec.specs.declared.mail.Mail.{Mail}
 use Rattle.paxos_spec.specs.declared.stage.Stage.TheVariants.{Primary}
-use Rattle.paxos_spec.specs.Votes.{Value, Cast}
+use Rattle.paxos_spec.specs.declared.cast.Cast.{Cast}
+use Rattle.paxos_spec.specs.Votes.{Value}
 use Rattle.paxos_spec.specs.Five.{five}
 use Rattle.paxos_spec.specs.Acceptor.{AcceptorState, new_acceptor, reach, most_slots, follow}
 use Rattle.paxos_spec.specs.Replica.{Memory}

@@ -6,7 +6,9 @@ use Rattle.paxos_spec.specs.declared.steps.LeadStep.{LeadStep}
 use Rattle.paxos_spec.specs.declared.steps.LeadStep.TheVariants as lead
 use Rattle.paxos_spec.specs.declared.steps.Counted.{Counted}
 use Rattle.paxos_spec.specs.declared.steps.Counted.TheVariants as counted
-use Rattle.paxos_spec.specs.Votes.{Value, Cast, no_vote, value_of, Proposal}
+use Rattle.paxos_spec.specs.declared.cast.Cast.{Cast}
+use Rattle.paxos_spec.specs.declared.cast.Proposal.{Proposal}
+use Rattle.paxos_spec.specs.Votes.{Value, no_vote, value_of}
 use Rattle.paxos_spec.specs.Five.{nobody, has, joined, how_many, next_ballot}
 
 -- What a candidate keeps of the promises that it recorded.

@@ -15,7 +15,9 @@ use Rattle.paxos_spec.specs.declared.steps.LeadStep.{LeadStep}
 use Rattle.paxos_spec.specs.declared.steps.LeadStep.TheVariants as lead
 use Rattle.paxos_spec.specs.declared.steps.Counted.{Counted}
 use Rattle.paxos_spec.specs.declared.steps.Counted.TheVariants as counted
-use Rattle.paxos_spec.specs.Votes.{Value, Cast, cast, value_of, Proposal}
+use Rattle.paxos_spec.specs.declared.cast.Cast.{Cast}
+use Rattle.paxos_spec.specs.declared.cast.Proposal.{Proposal}
+use Rattle.paxos_spec.specs.Votes.{Value, cast, value_of}
 use Rattle.paxos_spec.specs.Five.{five}
 use Rattle.paxos_spec.specs.Acceptor.{AcceptorState, reach, most_slots, prepare_step, accept_step, chosen_step}
 use Rattle.paxos_spec.specs.Leader.{LeaderState, new_leader, is_follower, is_catching, is_primary, is_leading, is_idle, value_out, stepped_down, campaign, lead_promise, lead_reached, propose, lead_accepted}

@@ -13,10 +13,12 @@
 //! five replicas to `Replica`. That the claims of `Agreement` hold, whatever happens, is proved there too.
 #![tactic(auto)]
 
+mod cast;
 mod mail;
 mod stage;
 mod steps;
 
+pub use cast::{Cast, Proposal};
 pub use mail::{Body, Mail};
 pub use stage::Stage;
 pub use steps::{AcceptStep, ChosenStep, Counted, LeadStep, PrepareStep};
