@@ -1,5 +1,5 @@
 -- Runs to look at: a value is chosen, a value is inherited, a log is caught up.
-use Rattle.std.specs.Prelude.{ℕ, ◌≡◌, List, [], ◌∷◌, ◌++◌, Option, Some, false}
+use Rattle.std.specs.Prelude.{ℕ, ◌≡◌, List, [], ◌∷◌, ◌++◌, Some, false}
 use Rattle.wire_core.specs.Commands.{Release}
 use Rattle.paxos_spec.specs.declared.stage.Stage.{Stage}
 use Rattle.paxos_spec.specs.declared.stage.Stage.TheVariants.{Inheriting, Primary}
