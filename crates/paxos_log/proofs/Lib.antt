@@ -9,3 +9,4 @@ pub mod Claims
 pub mod Logs
 pub mod Runs
 pub mod WorkedRuns
+pub mod Journaling

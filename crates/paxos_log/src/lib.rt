@@ -12,8 +12,12 @@
 //! one replica, so that a world in which more happens takes it over step by step.
 #![tactic(auto)]
 
+mod durable;
 mod event;
+mod journaled;
 mod laws;
+mod posts;
 
-pub use event::{PaxosEvent, Post};
+pub use event::PaxosEvent;
 pub use laws::{agreement, each_step, lasting, order, worked_runs};
+pub use posts::Post;
