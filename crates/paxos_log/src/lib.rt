@@ -12,11 +12,13 @@
 //! one replica, so that a world in which more happens takes it over step by step.
 #![tactic(auto)]
 
+mod candidacy;
 mod durable;
 mod event;
 mod journaled;
 mod laws;
 mod posts;
+mod replica;
 
 pub use event::PaxosEvent;
 pub use laws::{agreement, each_step, lasting, order, worked_runs};
