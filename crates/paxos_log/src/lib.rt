@@ -17,8 +17,10 @@ mod durable;
 mod event;
 mod journaled;
 mod laws;
+mod learning;
 mod posts;
 mod replica;
+mod voting;
 
 pub use event::PaxosEvent;
 pub use laws::{agreement, each_step, lasting, order, worked_runs};
