@@ -10,3 +10,4 @@ pub mod Logs
 pub mod Runs
 pub mod WorkedRuns
 pub mod Journaling
+pub mod Posting

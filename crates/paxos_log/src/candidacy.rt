@@ -1,4 +1,4 @@
-ghost use Rattle.std.specs.Prelude.{◌≡◌, ◌<◌, ◌++◌, map, IfOk, OnErr, OnOk};
+ghost use Rattle.std.specs.Prelude.{◌≡◌, ◌<◌, ◌++◌, [], map, IfOk, OnErr, OnOk};
 ghost use Rattle.std.specs.Option.{option_copied};
 ghost use Rattle.paxos_log.specs.World.{posted, stepped};
 ghost use Rattle.paxos_spec.specs.Acceptor.{state_of};
@@ -135,7 +135,8 @@ impl Replica {
     /// A Refuse comes.
     #[tactic(auto, unfolding(paxos_spec::specs::Replica::on_refuse))]
     pub fn on_refuse(&mut self, ballot: u64, promised: u64)
-        ensures { self.new ≡ stepped self.old (on_refuse self.old.memory ballot promised) }
+        ensures replica { self.new ≡ stepped self.old (on_refuse self.old.memory ballot promised) }
+        ensures silent { (on_refuse self.old.memory ballot promised).sends ≡ [] }
     {
         if !is_follower(self.leader.stage()) && self.leader.ballot() == ballot && ballot < promised {
             self.leader.step_down();

@@ -18,10 +18,13 @@ mod event;
 mod journaled;
 mod laws;
 mod learning;
+mod mailing;
 mod posts;
 mod replica;
 mod voting;
+mod world;
 
 pub use event::PaxosEvent;
 pub use laws::{agreement, each_step, lasting, order, worked_runs};
 pub use posts::Post;
+pub use world::PaxosWorld;
