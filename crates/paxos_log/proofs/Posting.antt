@@ -17,3 +17,6 @@ get_within xs k p e = slice_get_within xs k p e
 -- nothing is said
 pub none_said : (ps : List Post) (xs : List Mail) → xs ≡ [] → ps ≡ ps ++ map posted xs
 none_said ps xs e = rw e (sym (append-nil ps))
+
+pub none_added : (ps : List Post) → ps ++ [] ≡ ps
+none_added ps = append-nil ps

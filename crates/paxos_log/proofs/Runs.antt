@@ -97,7 +97,7 @@ steps f w r o r5 ok good =
     record { size = length-set w.replicas r _ ∙ ok.size; inv = keeps f (view w) (view (apply w r o)) r o m r5 ok.inv (good (view (apply w r o)) m) }
 
 -- to count a message as delivered changes nothing that is seen
-takes_ok : (w : World) (k : ℕ) (p : Post) → slice_get w.posts k ≡ Some p → IsOk w → IsOk (takes w k p)
+takes_ok : (w : World) (k : ℕ) (p : Post) → slice_get w.posts k ≡ Some p → IsOk w → IsOk (takes w k p.mail)
 unfolding view
 takes_ok w k p at ok = record {
   size = ok.size;
@@ -114,7 +114,7 @@ comes w r x r5 ok at = by_if (GoodOut None (view w) r) (nat_lt x.sender 5)
     (λ _. subst (λ (a : AcceptorState). GoodOut None (view w) r (on_message r a (replica w r).memory x.sender x.body)) (sym (state_is (replica w r).entries)) (message_good (view w) r x (here w r r5 ok) at))
     (λ _. good_quiet (view w) r (replica w r).memory r5 ok.inv (ok.inv.mems r r5))
 
-taken_in : (w : World) (k : ℕ) (p : Post) → slice_get w.posts k ≡ Some p → Contains (view (takes w k p)).sent p.mail
+taken_in : (w : World) (k : ℕ) (p : Post) → slice_get w.posts k ≡ Some p → Contains (view (takes w k p.mail)).sent p.mail
 unfolding view
 taken_in w k p at = subst (λ (xs : List Mail). Contains xs p.mail) (sym (mails_set w.posts k p (record { mail = p.mail; taken = true }) at refl)) (mail_in w.posts k p at)
 
@@ -122,7 +122,7 @@ delivers : (w : World) (k : ℕ) (o : Option Post) → IsOk w → slice_get w.po
 delivers w k None ok at = ok
 delivers w k (Some p) ok at = by_if IsOk (nat_lt p.mail.target 5)
     (λ yes. let r5 : p.mail.target < 5 = grind (arith, nat_tests) in
-    let v : World = takes w k p in let taken : IsOk v = takes_ok w k p at ok in
+    let v : World = takes w k p.mail in let taken : IsOk v = takes_ok w k p at ok in
     steps None v p.mail.target _ r5 taken (comes v p.mail.target p.mail r5 taken (taken_in w k p at)))
     (λ _. ok)
 
@@ -138,7 +138,7 @@ cut_good w r o r5 ok good =
 cuts : (w : World) (r k : ℕ) (o : Option Post) → r < 5 → IsOk w → slice_get w.posts k ≡ o → IsOk (cut_at w r k o)
 cuts w r k None r5 ok at = reopens_ok w r r5 ok
 cuts w r k (Some p) r5 ok at =
-    let v : World = takes w k p in let taken : IsOk v = takes_ok w k p at ok in
+    let v : World = takes w k p.mail in let taken : IsOk v = takes_ok w k p at ok in
     steps None v r _ r5 taken (cut_good v r (on_mail r (replica w r) p.mail) r5 taken (comes v r p.mail r5 taken (taken_in w k p at)))
 
 crashes : (w : World) (r : ℕ) (o : Option ℕ) → r < 5 → IsOk w → IsOk (cut_while w r o)

@@ -54,12 +54,16 @@ abbrev pub on_mail : ℕ → Replica → Mail → Out
 on_mail i x mail = if nat_lt mail.sender 5 then on_message i (state_of x.entries) x.memory mail.sender mail.body else quiet x.memory
 
 -- the message of this place counts as delivered
-abbrev pub takes : World → ℕ → Post → World
-takes w k p = record { replicas = w.replicas; posts = slice_set w.posts k (record { mail = p.mail; taken = true }) }
+abbrev pub takes : World → ℕ → Mail → World
+takes w k mail = record { replicas = w.replicas; posts = slice_set w.posts k (record { mail = mail; taken = true }) }
+
+-- the replica handles the message of this place
+abbrev pub handles : World → ℕ → ℕ → Mail → World
+handles w k i mail = apply (takes w k mail) i (on_mail i (replica w i) mail)
 
 abbrev pub delivered : World → ℕ → Option Post → World
 delivered w k None = w
-delivered w k (Some p) = if nat_lt p.mail.target 5 then apply (takes w k p) p.mail.target (on_mail p.mail.target (replica w p.mail.target) p.mail) else w
+delivered w k (Some p) = if nat_lt p.mail.target 5 then handles w k p.mail.target p.mail else w
 
 abbrev pub waits_for : ℕ → Post → Bool
 waits_for i p = (p.mail.target == i) && not p.taken
@@ -73,9 +77,12 @@ abbrev pub reopens : World → ℕ → World
 reopens w i = apply w i (quiet new_memory)
 
 -- It goes down while it handles the message of this place.
+abbrev pub falls : World → ℕ → ℕ → Mail → World
+falls w k i mail = apply (takes w k mail) i (cut_short (on_mail i (replica w i) mail))
+
 abbrev pub cut_at : World → ℕ → ℕ → Option Post → World
 cut_at w i k None = reopens w i
-cut_at w i k (Some p) = apply (takes w k p) i (cut_short (on_mail i (replica w i) p.mail))
+cut_at w i k (Some p) = falls w k i p.mail
 
 abbrev pub cut_while : World → ℕ → Option ℕ → World
 cut_while w i None = reopens w i

@@ -1,4 +1,4 @@
-ghost use Rattle.std.specs.Prelude.{◌≡◌, ◌<◌, ◌==◌, ◌++◌, ◌∷◌, [], not, filter, map, position, vec_capacity, vec_len, IfOk};
+ghost use Rattle.std.specs.Prelude.{◌≡◌, ◌<◌, ◌==◌, ◌++◌, ◌∷◌, [], not, filter, map, position, slice_set, true, vec_capacity, vec_len, IfOk};
 ghost use Rattle.paxos_log.specs.World.{posted, waits_for};
 ghost use Rattle.paxos_spec.specs.Five.{five};
 ghost use Rattle.paxos_spec.specs.Leader.{value_out};
@@ -145,6 +145,14 @@ pub fn say(posts: &mut Vec<Post>, me: u8, target: u8, body: Body)
             taken: false,
         })
         .unwrap();
+}
+
+/// The message of this place counts as delivered.
+pub fn take(posts: &mut Vec<Post>, at: usize, mail: Mail)
+    requires { at < vec_len posts.old }
+    ensures { posts.new.items ≡ slice_set posts.old.items at (record { mail = mail; taken = true }) }
+{
+    posts[at] = Post { mail, taken: true };
 }
 
 /// The place of the least message to this replica that was never delivered. Costs a look at each message before it.

@@ -1,13 +1,14 @@
 ghost use Rattle.std.specs.Prelude.{◌≡◌, ◌<◌, IfOk, OnErr, OnOk, length, slice_get, slice_index_or};
-ghost use Rattle.paxos_log.specs.World.{cut_at, cut_while, delivered, happens, reopens, start, waiting};
+ghost use Rattle.paxos_log.specs.World.{cut_at, cut_while, delivered, falls, handles, happens, reopens, start, waiting};
 ghost use Rattle.paxos_log.specs.declared.event.PaxosEvent.TheVariants.{Campaign, Offer};
 ghost use Rattle.paxos_spec.specs.Acceptor.{state_of};
 ghost use Rattle.paxos_spec.specs.Replica.{on_campaign};
 ghost use Rattle.wire_core.specs.Reading.{read_value};
 
 use crate::event::PaxosEvent;
-use crate::posts::{Post, copy_of_mail, waiting};
+use crate::posts::{Post, copy_of_mail, take, waiting};
 use crate::replica::Replica;
+use paxos_spec::Mail;
 use std::alloc::Global;
 use std::marker::Model;
 use wire_core::{NoMemory, Value};
@@ -123,44 +124,69 @@ impl PaxosWorld {
         Ok(())
     }
 
+    /// The replica handles the message of this place.
+    #[tactic(auto, using(crate::proofs::Posting::set_front), unfolding(crate::specs::World::apply))]
+    fn handle(&mut self, at: usize, i: u8, mail: Mail) -> Result<(), NoMemory>
+        requires place { at < length self.old.posts }
+        requires replica { i < 5 }
+        ensures ok { OnOk result (self.new ≡ handles self.old at i mail) }
+        ensures err { OnErr result (self.new ≡ self.old) }
+    {
+        self.replicas[usize::from(i)].on_mail(self.alloc, i, &mail, &mut self.posts)?;
+        take(&mut self.posts, at, mail);
+        Ok(())
+    }
+
     /// The message of this place arrives, if there is one.
-    #[tactic(auto, using(crate::proofs::Posting::set_front, crate::proofs::Posting::get_within), unfolding(crate::specs::World::apply))]
     fn deliver(&mut self, at: u64) -> Result<(), NoMemory>
         ensures ok { OnOk result (self.new ≡ delivered self.old at (slice_get self.old.posts at)) }
         ensures err { OnErr result (self.new ≡ self.old) }
     {
         let at = at as usize;
-        let Some(post) = self.posts.get(at) else {
-            return Ok(());
-        };
-        let target = post.mail.target;
-        if target >= 5 {
-            return Ok(());
+        match self.posts.get(at) {
+            None => Ok(()),
+            Some(post) => {
+                let target = post.mail.target;
+                if target >= 5 {
+                    return Ok(());
+                }
+                let mail = copy_of_mail(self.alloc, &post.mail)?;
+                self.handle(at, target, mail)
+            }
         }
-        let mail = copy_of_mail(self.alloc, &post.mail)?;
-        self.replicas[usize::from(target)].on_mail(self.alloc, target, &mail, &mut self.posts)?;
-        self.posts[at] = Post { mail, taken: true };
+    }
+
+    /// The replica goes down while it handles the message of this place: the step is taken on a copy, of which the
+    /// entries stay.
+    #[tactic(auto, using(crate::proofs::Posting::none_added), unfolding(crate::specs::World::apply))]
+    fn fall(&mut self, at: usize, i: u8, mail: Mail) -> Result<(), NoMemory>
+        requires place { at < length self.old.posts }
+        requires replica { i < 5 }
+        ensures ok { OnOk result (self.new ≡ falls self.old at i mail) }
+        ensures err { OnErr result (self.new ≡ self.old) }
+    {
+        let mut replica = self.replicas[usize::from(i)].copy(self.alloc)?;
+        let mut unsent = Vec::new(self.alloc);
+        replica.on_mail(self.alloc, i, &mail, &mut unsent)?;
+        replica.forget(self.alloc);
+        take(&mut self.posts, at, mail);
+        self.replicas[usize::from(i)] = replica;
         Ok(())
     }
 
-    /// The replica goes down while it handles the message of this place.
-    #[tactic(auto, using(crate::proofs::Posting::get_within), unfolding(crate::specs::World::apply))]
+    /// The same, if there is such a message.
     fn cut_at(&mut self, i: u8, at: usize) -> Result<(), NoMemory>
         requires { i < 5 }
         ensures ok { OnOk result (self.new ≡ cut_at self.old i at (slice_get self.old.posts at)) }
         ensures err { OnErr result (self.new ≡ self.old) }
     {
-        let Some(post) = self.posts.get(at) else {
-            return self.reopen(i);
-        };
-        let mail = copy_of_mail(self.alloc, &post.mail)?;
-        let mut replica = self.replicas[usize::from(i)].copy(self.alloc)?;
-        let mut unsent = Vec::new(self.alloc);
-        replica.on_mail(self.alloc, i, &mail, &mut unsent)?;
-        replica.forget(self.alloc);
-        self.posts[at] = Post { mail, taken: true };
-        self.replicas[usize::from(i)] = replica;
-        Ok(())
+        match self.posts.get(at) {
+            None => self.reopen(i),
+            Some(post) => {
+                let mail = copy_of_mail(self.alloc, &post.mail)?;
+                self.fall(at, i, mail)
+            }
+        }
     }
 
     /// The replica goes down while it handles the least message to it that was never delivered, if there is one.
