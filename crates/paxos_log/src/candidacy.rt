@@ -6,12 +6,10 @@ ghost use Rattle.paxos_spec.specs.Replica.{on_campaign, on_offer, on_prepare, on
 ghost use Rattle.paxos_spec.specs.Votes.{cast};
 
 use crate::posts::{FIVE, Post, accepts, posts_to, say};
-use crate::replica::{Replica, is_follower};
+use crate::replica::{MOST_SLOTS, Replica, is_follower};
 use paxos_spec::{Body, LeadStep, PrepareStep};
 use std::alloc::Global;
 use wire_core::{NoMemory, OwnedValue, Value};
-
-const MOST_SLOTS: u64 = 1 << 58;
 
 impl Replica {
     /// It runs for election, unless it is primary.
@@ -40,7 +38,13 @@ impl Replica {
 
     /// A value is offered to it.
     #[tactic(auto, unfolding(paxos_spec::specs::Replica::on_offer))]
-    pub fn offer(&mut self, alloc: Global, me: u8, value: &Value, posts: &mut Vec<Post>) -> Result<(), NoMemory>
+    pub fn offer(
+        &mut self,
+        alloc: Global,
+        me: u8,
+        value: &Value,
+        posts: &mut Vec<Post>,
+    ) -> Result<(), NoMemory>
         ensures replica { OnOk result (self.new ≡ stepped self.old (on_offer me (state_of self.old.entries) self.old.memory value.now)) }
         ensures posts { OnOk result (posts.new.items ≡ posts.old.items ++ map posted (on_offer me (state_of self.old.entries) self.old.memory value.now).sends) }
         ensures same { OnErr result (self.new ≡ self.old) }
@@ -85,7 +89,14 @@ impl Replica {
 
     /// A Prepare comes.
     #[tactic(auto, unfolding(paxos_spec::specs::Replica::on_prepare))]
-    pub fn on_prepare(&mut self, alloc: Global, me: u8, from: u8, ballot: u64, posts: &mut Vec<Post>) -> Result<(), NoMemory>
+    pub fn on_prepare(
+        &mut self,
+        alloc: Global,
+        me: u8,
+        from: u8,
+        ballot: u64,
+        posts: &mut Vec<Post>,
+    ) -> Result<(), NoMemory>
         ensures replica { OnOk result (self.new ≡ stepped self.old (on_prepare me (state_of self.old.entries) self.old.memory from ballot)) }
         ensures posts { OnOk result (posts.new.items ≡ posts.old.items ++ map posted (on_prepare me (state_of self.old.entries) self.old.memory from ballot).sends) }
         ensures same { OnErr result (self.new ≡ self.old) }
@@ -94,7 +105,12 @@ impl Replica {
         let promise = self.promise(alloc, ballot)?;
         posts.reserve(1)?;
         match self.acceptor.on_prepare(ballot)? {
-            PrepareStep::Refuse { promised } => say(posts, me, from, Body::Refuse { ballot, promised }),
+            PrepareStep::Refuse { promised } => say(
+                posts,
+                me,
+                from,
+                Body::Refuse { ballot, promised },
+            ),
             PrepareStep::Again => say(posts, me, from, promise),
             PrepareStep::Promise => {
                 self.leader.step_down();
@@ -106,7 +122,17 @@ impl Replica {
 
     /// A Promise comes.
     #[tactic(auto, unfolding(paxos_spec::specs::Replica::on_promise))]
-    pub fn on_promise(&mut self, alloc: Global, me: u8, from: u8, ballot: u64, length: u64, vote: u64, value: Option<&Value>, posts: &mut Vec<Post>) -> Result<(), NoMemory>
+    pub fn on_promise(
+        &mut self,
+        alloc: Global,
+        me: u8,
+        from: u8,
+        ballot: u64,
+        length: u64,
+        vote: u64,
+        value: Option<&Value>,
+        posts: &mut Vec<Post>,
+    ) -> Result<(), NoMemory>
         requires { from < 5 }
         ensures replica { OnOk result (self.new ≡ stepped self.old (on_promise me (state_of self.old.entries) self.old.memory from ballot length (cast vote (option_copied value.entry)))) }
         ensures posts { OnOk result (posts.new.items ≡ posts.old.items ++ map posted (on_promise me (state_of self.old.entries) self.old.memory from ballot length (cast vote (option_copied value.entry))).sends) }
@@ -138,7 +164,10 @@ impl Replica {
         ensures replica { self.new ≡ stepped self.old (on_refuse self.old.memory ballot promised) }
         ensures silent { (on_refuse self.old.memory ballot promised).sends ≡ [] }
     {
-        if !is_follower(self.leader.stage()) && self.leader.ballot() == ballot && ballot < promised {
+        if !is_follower(self.leader.stage())
+            && self.leader.ballot() == ballot
+            && ballot < promised
+        {
             self.leader.step_down();
             self.seen = self.seen.max(promised);
         }

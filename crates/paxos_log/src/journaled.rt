@@ -100,7 +100,13 @@ impl Journaled {
 
     /// An Accept of the value at this ballot for this slot, and its entry. Without memory nothing changed.
     #[tactic(auto, using(crate::proofs::Journaling::state_more))]
-    pub fn on_accept(&mut self, alloc: Global, ballot: u64, slot: u64, value: &Value) -> Result<AcceptStep, NoMemory>
+    pub fn on_accept(
+        &mut self,
+        alloc: Global,
+        ballot: u64,
+        slot: u64,
+        value: &Value,
+    ) -> Result<AcceptStep, NoMemory>
         ensures step { IfOk result (λ step. step ≡ accept_step (state_of self.old) ballot slot value.now) }
         ensures entry { IfOk result (λ step. self.new ≡ with_entry self.old (accept_entry ballot value.now step)) }
         ensures err { OnErr result (self.new ≡ self.old) }
@@ -109,7 +115,10 @@ impl Journaled {
         self.entries.reserve(1)?;
         let step = self.acceptor.on_accept(ballot, slot, value)?;
         match step {
-            AcceptStep::Refuse { .. } | AcceptStep::Late | AcceptStep::Behind { .. } | AcceptStep::Again => {}
+            AcceptStep::Refuse { .. }
+            | AcceptStep::Late
+            | AcceptStep::Behind { .. }
+            | AcceptStep::Again => {}
             AcceptStep::Voted => self.entries.push(Durable::Vote { cast }).unwrap(),
         }
         Ok(step)
@@ -117,7 +126,13 @@ impl Journaled {
 
     /// A Chosen of the value at this ballot for this slot, and its entry. Without memory nothing changed.
     #[tactic(auto, using(crate::proofs::Journaling::state_more))]
-    pub fn on_chosen(&mut self, alloc: Global, slot: u64, ballot: u64, value: &Value) -> Result<ChosenStep, NoMemory>
+    pub fn on_chosen(
+        &mut self,
+        alloc: Global,
+        slot: u64,
+        ballot: u64,
+        value: &Value,
+    ) -> Result<ChosenStep, NoMemory>
         ensures step { IfOk result (λ step. step ≡ chosen_step (state_of self.old) slot) }
         ensures entry { IfOk result (λ step. self.new ≡ with_entry self.old (chosen_entry ballot value.now step)) }
         ensures err { OnErr result (self.new ≡ self.old) }

@@ -24,7 +24,13 @@ impl Replica {
     }
 
     /// What its leader comes to, and what it says, once a message brought the log to this length.
-    fn onwards(&self, alloc: Global, me: u8, promise: u64, at: u64) -> Result<(Leader, Vec<Post>), NoMemory>
+    fn onwards(
+        &self,
+        alloc: Global,
+        me: u8,
+        promise: u64,
+        at: u64,
+    ) -> Result<(Leader, Vec<Post>), NoMemory>
         ensures leader { IfOk result (λ x. x.0 ≡ (onwards me promise at self.now.memory).0) }
         ensures posts { IfOk result (λ x. x.1.items ≡ map posted (onwards me promise at self.now.memory).1) }
     {
@@ -43,7 +49,16 @@ impl Replica {
 
     /// A Chosen comes.
     #[tactic(auto, unfolding(paxos_spec::specs::Replica::on_chosen))]
-    pub fn on_chosen(&mut self, alloc: Global, me: u8, from: u8, slot: u64, ballot: u64, value: &Value, posts: &mut Vec<Post>) -> Result<(), NoMemory>
+    pub fn on_chosen(
+        &mut self,
+        alloc: Global,
+        me: u8,
+        from: u8,
+        slot: u64,
+        ballot: u64,
+        value: &Value,
+        posts: &mut Vec<Post>,
+    ) -> Result<(), NoMemory>
         ensures replica { OnOk result (self.new ≡ stepped self.old (on_chosen me (state_of self.old.entries) self.old.memory from slot ballot value.now)) }
         ensures posts { OnOk result (posts.new.items ≡ posts.old.items ++ map posted (on_chosen me (state_of self.old.entries) self.old.memory from slot ballot value.now).sends) }
         ensures same { OnErr result (self.new ≡ self.old) }
@@ -68,7 +83,14 @@ impl Replica {
     }
 
     /// A Fetch comes.
-    pub fn on_fetch(&self, alloc: Global, me: u8, from: u8, slot: u64, posts: &mut Vec<Post>) -> Result<(), NoMemory>
+    pub fn on_fetch(
+        &self,
+        alloc: Global,
+        me: u8,
+        from: u8,
+        slot: u64,
+        posts: &mut Vec<Post>,
+    ) -> Result<(), NoMemory>
         ensures replica { OnOk result (self.now ≡ stepped self.now (on_fetch me (state_of self.now.entries) self.now.memory from slot)) }
         ensures posts { OnOk result (posts.new.items ≡ posts.old.items ++ map posted (on_fetch me (state_of self.now.entries) self.now.memory from slot).sends) }
         ensures none { OnErr result (posts.new.items ≡ posts.old.items) }
@@ -76,7 +98,16 @@ impl Replica {
         if let Some((ballot, value)) = self.acceptor.learned(slot) {
             let value = OwnedValue::of(alloc, &value)?;
             posts.reserve(1)?;
-            say(posts, me, from, Body::Chosen { slot, ballot, value });
+            say(
+                posts,
+                me,
+                from,
+                Body::Chosen {
+                    slot,
+                    ballot,
+                    value,
+                },
+            );
         }
         Ok(())
     }

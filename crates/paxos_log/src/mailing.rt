@@ -12,7 +12,14 @@ use wire_core::NoMemory;
 impl Replica {
     /// A message of this replica comes.
     #[tactic(auto, using(crate::proofs::Posting::none_said))]
-    fn on_message(&mut self, alloc: Global, me: u8, from: u8, body: &Body, posts: &mut Vec<Post>) -> Result<(), NoMemory>
+    fn on_message(
+        &mut self,
+        alloc: Global,
+        me: u8,
+        from: u8,
+        body: &Body,
+        posts: &mut Vec<Post>,
+    ) -> Result<(), NoMemory>
         requires me { me < 5 }
         requires from { from < 5 }
         ensures replica { OnOk result (self.new ≡ stepped self.old (on_message me (state_of self.old.entries) self.old.memory from body.now)) }
@@ -35,7 +42,16 @@ impl Replica {
                 value: Some(value),
             } => {
                 let value = value.as_value();
-                self.on_promise(alloc, me, from, *ballot, *length, *vote, Some(&value), posts)
+                self.on_promise(
+                    alloc,
+                    me,
+                    from,
+                    *ballot,
+                    *length,
+                    *vote,
+                    Some(&value),
+                    posts,
+                )
             }
             Body::Accept {
                 ballot,
@@ -59,7 +75,13 @@ impl Replica {
     }
 
     /// A message comes. One of no replica is passed over.
-    pub fn on_mail(&mut self, alloc: Global, me: u8, mail: &Mail, posts: &mut Vec<Post>) -> Result<(), NoMemory>
+    pub fn on_mail(
+        &mut self,
+        alloc: Global,
+        me: u8,
+        mail: &Mail,
+        posts: &mut Vec<Post>,
+    ) -> Result<(), NoMemory>
         requires { me < 5 }
         ensures replica { OnOk result (self.new ≡ stepped self.old (on_mail me self.old mail.now)) }
         ensures posts { OnOk result (posts.new.items ≡ posts.old.items ++ map posted (on_mail me self.old mail.now).sends) }

@@ -1,14 +1,19 @@
-ghost use Rattle.std.specs.Prelude.{◌≡◌, IfOk};
+ghost use Rattle.std.specs.Prelude.{◌≡◌, IfOk, option_map, slice_get};
+ghost use Rattle.paxos_acceptor.specs.Seen.{pair_of};
 ghost use Rattle.paxos_log.specs.World.{new_replica};
+ghost use Rattle.paxos_spec.specs.Acceptor.{state_of};
 ghost use Rattle.paxos_spec.specs.Leader.{is_catching, is_follower, is_leading};
-ghost use Rattle.paxos_spec.specs.Replica.{down, new_memory};
+ghost use Rattle.paxos_spec.specs.Replica.{new_memory};
 
 use crate::journaled::Journaled;
 use paxos_leader::Leader;
 use paxos_spec::Stage;
 use std::alloc::Global;
 use std::marker::Model;
-use wire_core::NoMemory;
+use wire_core::{NoMemory, Value};
+
+/// The most slots that a log has.
+pub const MOST_SLOTS: u64 = 1 << 58;
 
 /// One replica: what it keeps durably, and what it has in memory.
 #[derive(Debug, Drop)]
@@ -28,12 +33,10 @@ impl Model for Replica {
 
     ghost Value = { Replica };
 
-    ghost view = {
-        λ r. record {
-            entries = r.acceptor;
-            memory = record { leader = r.leader; seen = r.seen; goal = r.goal; guide = r.guide };
-        }
-    };
+    ghost view = { λ r. record {
+      entries = r.acceptor;
+      memory = record { leader = r.leader; seen = r.seen; goal = r.goal; guide = r.guide };
+    } };
 }
 
 /// Whether it follows.
@@ -103,10 +106,10 @@ impl Replica {
         self.guide = 0;
     }
 
-    /// It steps down.
-    pub fn step_down(&mut self)
-        ensures { self.new ≡ record { entries = self.old.entries; memory = down self.old.memory } }
+    /// What it learned at this slot. `None` exactly from its log's length on.
+    pub fn learned(&self, slot: u64) -> Option<(u64, Value<'_>)>
+        ensures { result ≡ option_map pair_of (slice_get (state_of self.now.entries).log slot) }
     {
-        self.leader.step_down();
+        self.acceptor.learned(slot)
     }
 }

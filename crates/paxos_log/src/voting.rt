@@ -5,17 +5,24 @@ ghost use Rattle.paxos_spec.specs.Leader.{lead_accepted, value_out, would_choose
 ghost use Rattle.paxos_spec.specs.Replica.{is_next, on_accept, on_accepted, tallied_by};
 
 use crate::posts::{Post, others, posts_to, say};
-use crate::replica::Replica;
+use crate::replica::{MOST_SLOTS, Replica};
 use paxos_spec::{AcceptStep, Body, Counted};
 use std::alloc::Global;
 use wire_core::{NoMemory, OwnedValue, Value};
 
-const MOST_SLOTS: u64 = 1 << 58;
-
 impl Replica {
     /// An Accept comes.
     #[tactic(auto, unfolding(paxos_spec::specs::Replica::on_accept))]
-    pub fn on_accept(&mut self, alloc: Global, me: u8, from: u8, ballot: u64, slot: u64, value: &Value, posts: &mut Vec<Post>) -> Result<(), NoMemory>
+    pub fn on_accept(
+        &mut self,
+        alloc: Global,
+        me: u8,
+        from: u8,
+        ballot: u64,
+        slot: u64,
+        value: &Value,
+        posts: &mut Vec<Post>,
+    ) -> Result<(), NoMemory>
         ensures replica { OnOk result (self.new ≡ stepped self.old (on_accept me (state_of self.old.entries) self.old.memory from ballot slot value.now)) }
         ensures posts { OnOk result (posts.new.items ≡ posts.old.items ++ map posted (on_accept me (state_of self.old.entries) self.old.memory from ballot slot value.now).sends) }
         ensures same { OnErr result (self.new ≡ self.old) }
@@ -23,7 +30,12 @@ impl Replica {
     {
         posts.reserve(1)?;
         match self.acceptor.on_accept(alloc, ballot, slot, value)? {
-            AcceptStep::Refuse { promised } => say(posts, me, from, Body::Refuse { ballot, promised }),
+            AcceptStep::Refuse { promised } => say(
+                posts,
+                me,
+                from,
+                Body::Refuse { ballot, promised },
+            ),
             AcceptStep::Late => {}
             AcceptStep::Behind { length } => {
                 self.goal = slot;
@@ -43,7 +55,15 @@ impl Replica {
 
     /// An Accepted comes.
     #[tactic(auto, unfolding(paxos_spec::specs::Replica::on_accepted))]
-    pub fn on_accepted(&mut self, alloc: Global, me: u8, from: u8, ballot: u64, slot: u64, posts: &mut Vec<Post>) -> Result<(), NoMemory>
+    pub fn on_accepted(
+        &mut self,
+        alloc: Global,
+        me: u8,
+        from: u8,
+        ballot: u64,
+        slot: u64,
+        posts: &mut Vec<Post>,
+    ) -> Result<(), NoMemory>
         requires me { me < 5 }
         requires from { from < 5 }
         ensures replica { OnOk result (self.new ≡ stepped self.old (on_accepted me (state_of self.old.entries) self.old.memory from ballot slot)) }
@@ -62,7 +82,15 @@ impl Replica {
     }
 
     /// The third Accepted comes: what is outstanding is learned and told.
-    fn choose(&mut self, alloc: Global, me: u8, from: u8, ballot: u64, slot: u64, posts: &mut Vec<Post>) -> Result<(), NoMemory>
+    fn choose(
+        &mut self,
+        alloc: Global,
+        me: u8,
+        from: u8,
+        ballot: u64,
+        slot: u64,
+        posts: &mut Vec<Post>,
+    ) -> Result<(), NoMemory>
         requires me { me < 5 }
         requires from { from < 5 }
         requires next { is_next (state_of self.old.entries) slot ≡ true }

@@ -1,9 +1,8 @@
-ghost use Rattle.std.specs.Prelude.{◌≡◌, ◌<◌, IfOk, OnErr, OnOk, length, slice_get, slice_index_or};
-ghost use Rattle.paxos_log.specs.World.{cut_at, cut_while, delivered, falls, handles, happens, reopens, start, waiting};
+ghost use Rattle.std.specs.Prelude.{◌≡◌, ◌<◌, IfOk, OnErr, OnOk, length, option_map, slice_get};
+ghost use Rattle.paxos_acceptor.specs.Seen.{pair_of};
+ghost use Rattle.paxos_log.specs.World.{cut_at, cut_while, delivered, falls, handles, happens, reopens, replica, start, waiting};
 ghost use Rattle.paxos_log.specs.declared.event.PaxosEvent.TheVariants.{Campaign, Offer};
 ghost use Rattle.paxos_spec.specs.Acceptor.{state_of};
-ghost use Rattle.paxos_spec.specs.Replica.{on_campaign};
-ghost use Rattle.wire_core.specs.Reading.{read_value};
 
 use crate::event::PaxosEvent;
 use crate::posts::{Post, copy_of_mail, take, waiting};
@@ -45,6 +44,21 @@ impl PaxosWorld {
             ],
             posts: Vec::new(alloc),
         })
+    }
+
+    /// The ballot and value that this replica, from 0 to 4, learned at this slot. `None` exactly from its log's length on.
+    pub fn learned(&self, i: u8, slot: u64) -> Option<(u64, Value<'_>)>
+        requires { i < 5 }
+        ensures { result ≡ option_map pair_of (slice_get (state_of (replica self.now i).entries).log slot) }
+    {
+        self.replicas[usize::from(i)].learned(slot)
+    }
+
+    /// Every message that was ever sent, from the first on.
+    pub fn posts(&self) -> &[Post]
+        ensures { result.now ≡ self.now.posts }
+    {
+        self.posts.as_slice()
     }
 
     /// The event happens. One that names no replica, no message or no value changes nothing. Without memory nothing
