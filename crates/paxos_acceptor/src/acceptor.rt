@@ -6,6 +6,7 @@ ghost use Rattle.paxos_spec.specs.Votes.{vote_seen};
 
 use paxos_spec::{AcceptStep, Cast, ChosenStep, PrepareStep};
 use std::alloc::Global;
+use std::cmp::Ordering;
 use std::marker::Model;
 use wire_core::{Entry, NoMemory, OwnedValue, Value, is_same_value};
 
@@ -42,12 +43,10 @@ impl Model for Acceptor {
     ghost use Rattle.paxos_acceptor.specs.Seen.{entry_made};
     ghost use Rattle.paxos_spec.specs.Votes.{vote_seen};
 
-    ghost view = {
-        λ a. record {
-            state = record { promise = a.promise; vote = vote_seen a.vote; log = a.log.items };
-            entry = entry_made a.made a.promise a.vote a.log.items;
-        }
-    };
+    ghost view = { λ a. record {
+      state = record { promise = a.promise; vote = vote_seen a.vote; log = a.log.items };
+      entry = entry_made a.made a.promise a.vote a.log.items;
+    } };
 }
 
 /// The value with its ballot, in a copy.
@@ -112,23 +111,32 @@ impl Acceptor {
         ensures step { result ≡ prepare_step self.old.state ballot }
         ensures entry { self.new ≡ acted self.old.state (prepare_entry ballot result) }
     {
-        if ballot < self.promise {
-            self.made = Made::Nothing;
-            PrepareStep::Refuse {
-                promised: self.promise,
+        match ballot.cmp(&self.promise) {
+            Ordering::Less => {
+                self.made = Made::Nothing;
+                PrepareStep::Refuse {
+                    promised: self.promise,
+                }
             }
-        } else if ballot == self.promise {
-            self.made = Made::Nothing;
-            PrepareStep::Again
-        } else {
-            self.promise = ballot;
-            self.made = Made::Promise;
-            PrepareStep::Promise
+            Ordering::Equal => {
+                self.made = Made::Nothing;
+                PrepareStep::Again
+            }
+            Ordering::Greater => {
+                self.promise = ballot;
+                self.made = Made::Promise;
+                PrepareStep::Promise
+            }
         }
     }
 
     /// An Accept of the value at this ballot for this slot. Without memory nothing changed.
-    pub fn on_accept(&mut self, ballot: u64, slot: u64, value: &Value) -> Result<AcceptStep, NoMemory>
+    pub fn on_accept(
+        &mut self,
+        ballot: u64,
+        slot: u64,
+        value: &Value,
+    ) -> Result<AcceptStep, NoMemory>
         ensures step { IfOk result (λ step. step ≡ accept_step self.old.state ballot slot value.now) }
         ensures entry { IfOk result (λ step. self.new ≡ acted self.old.state (accept_entry ballot value.now step)) }
         ensures err { OnErr result (self.new ≡ self.old) }
@@ -136,7 +144,7 @@ impl Acceptor {
         let step = self.accept_step(ballot, slot, value);
         if step == AcceptStep::Voted {
             self.vote = Some(cast(self.alloc, ballot, value)?);
-            self.promise = self.promise.max(ballot);
+            self.promise = ballot;
             self.made = Made::Vote;
         } else {
             self.made = Made::Nothing;
@@ -145,7 +153,12 @@ impl Acceptor {
     }
 
     /// A Chosen of the value at this ballot for this slot. Without memory nothing changed.
-    pub fn on_chosen(&mut self, slot: u64, ballot: u64, value: &Value) -> Result<ChosenStep, NoMemory>
+    pub fn on_chosen(
+        &mut self,
+        slot: u64,
+        ballot: u64,
+        value: &Value,
+    ) -> Result<ChosenStep, NoMemory>
         ensures step { IfOk result (λ step. step ≡ chosen_step self.old.state slot) }
         ensures entry { IfOk result (λ step. self.new ≡ acted self.old.state (chosen_entry ballot value.now step)) }
         ensures err { OnErr result (self.new ≡ self.old) }

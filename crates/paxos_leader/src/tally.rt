@@ -113,7 +113,14 @@ impl Tally {
 
     /// Counts a Promise: the replica has a log of this length, and this vote for the slot at its end, or none where no
     /// ballot above 0 and value are given. Without memory nothing changed.
-    pub fn tell(&mut self, alloc: Global, from: u8, length: u64, vote: u64, value: Option<&Value>) -> Result<(), NoMemory>
+    pub fn tell(
+        &mut self,
+        alloc: Global,
+        from: u8,
+        length: u64,
+        vote: u64,
+        value: Option<&Value>,
+    ) -> Result<(), NoMemory>
         requires { from < 5 }
         ensures ok { OnOk result (self.new ≡ tallied self.old from length (cast vote (option_copied value.entry))) }
         ensures err { OnErr result (self.new ≡ self.old) }
