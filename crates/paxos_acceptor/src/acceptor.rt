@@ -111,23 +111,14 @@ impl Acceptor {
         ensures step { result ≡ prepare_step self.old.state ballot }
         ensures entry { self.new ≡ acted self.old.state (prepare_entry ballot result) }
     {
-        match ballot.cmp(&self.promise) {
-            Ordering::Less => {
-                self.made = Made::Nothing;
-                PrepareStep::Refuse {
-                    promised: self.promise,
-                }
-            }
-            Ordering::Equal => {
-                self.made = Made::Nothing;
-                PrepareStep::Again
-            }
-            Ordering::Greater => {
-                self.promise = ballot;
-                self.made = Made::Promise;
-                PrepareStep::Promise
-            }
+        let step = self.prepare_step(ballot);
+        if step == PrepareStep::Promise {
+            self.promise = ballot;
+            self.made = Made::Promise;
+        } else {
+            self.made = Made::Nothing;
         }
+        step
     }
 
     /// An Accept of the value at this ballot for this slot. Without memory nothing changed.
@@ -244,8 +235,21 @@ impl Acceptor {
         slot < self.length() || MOST_SLOTS <= self.length()
     }
 
-    /// What is answered to an Accept.
-    fn accept_step(&self, ballot: u64, slot: u64, value: &Value) -> AcceptStep
+    /// What [`Acceptor::on_prepare`] answers to this. Nothing changes.
+    pub fn prepare_step(&self, ballot: u64) -> PrepareStep
+        ensures { result ≡ prepare_step self.now.state ballot }
+    {
+        match ballot.cmp(&self.promise) {
+            Ordering::Less => PrepareStep::Refuse {
+                promised: self.promise,
+            },
+            Ordering::Equal => PrepareStep::Again,
+            Ordering::Greater => PrepareStep::Promise,
+        }
+    }
+
+    /// What [`Acceptor::on_accept`] answers to this. Nothing changes.
+    pub fn accept_step(&self, ballot: u64, slot: u64, value: &Value) -> AcceptStep
         ensures { result ≡ accept_step self.now.state ballot slot value.now }
     {
         if ballot < self.promise {
@@ -265,8 +269,8 @@ impl Acceptor {
         }
     }
 
-    /// What is answered to a Chosen.
-    fn chosen_step(&self, slot: u64) -> ChosenStep
+    /// What [`Acceptor::on_chosen`] answers to this. Nothing changes.
+    pub fn chosen_step(&self, slot: u64) -> ChosenStep
         ensures { result ≡ chosen_step self.now.state slot }
     {
         if self.is_late(slot) {
