@@ -16,7 +16,9 @@ use Rattle.paxos_spec.specs.declared.steps.AcceptStep.{AcceptStep}
 use Rattle.paxos_spec.specs.declared.steps.ChosenStep.{ChosenStep}
 use Rattle.paxos_spec.specs.declared.steps.LeadStep.{LeadStep}
 use Rattle.paxos_spec.specs.declared.steps.Counted.{Counted}
-use Rattle.paxos_spec.specs.Votes.{Value, Cast, no_vote, value_of, cast, Proposal}
+use Rattle.paxos_spec.specs.declared.cast.Cast.{Cast}
+use Rattle.paxos_spec.specs.declared.cast.Proposal.{Proposal}
+use Rattle.paxos_spec.specs.Votes.{Value, no_vote, value_of, cast}
 use Rattle.paxos_spec.specs.Five.{five, nobody, has, joined, how_many, next_ballot}
 use Rattle.paxos_spec.specs.Acceptor.{AcceptorState, reach, most_slots, stands}
 use Rattle.paxos_spec.specs.Leader.{LeaderState, Tally, no_tally, tallied, is_follower, is_candidate, is_catching, is_primary, is_leading, is_idle, value_out, candidate, campaign, proposing, primary, arrive, third_promise, with_tally, with_counted, lead_accepted_of, lead_reached}

@@ -2,7 +2,8 @@
 use Rattle.std.proofs.Common.{◌≡◌, ℕ, zero, suc, ◌+◌, ◌-◌, ◌<◌, ◌≤◌, ◌⊎◌, inl, inr, List, [], ◌∷◌, ◌++◌, map, take, drop, length, get_or, refl, sym, ap, ◌∙◌, arith, subst, get_or-drop, get_or-append-add, get_or-take, length-take-le, length-append, length-drop, ext_get_or}
 use Rattle.std.proofs.lemmas.List.{get_or_append_left, length-map}
 use Rattle.std.proofs.lemmas.Option.{slice_get-get_or}
-use Rattle.paxos_spec.specs.Votes.{Value, Cast, no_vote}
+use Rattle.paxos_spec.specs.declared.cast.Cast.{Cast}
+use Rattle.paxos_spec.specs.Votes.{Value, no_vote}
 use Rattle.paxos_spec.specs.Five.{five}
 use Rattle.paxos_spec.specs.Acceptor.{reach}
 use Rattle.paxos_spec.specs.Agreement.{View, values_of, first_of, IsBeginning}

@@ -4,7 +4,8 @@ use Rattle.wire_core.specs.declared.entry.Entry.{Entry}
 use Rattle.paxos_spec.specs.declared.mail.Body.{Body}
 use Rattle.paxos_spec.specs.declared.mail.Body.TheVariants.{Accept}
 use Rattle.paxos_spec.specs.declared.stage.Stage.TheVariants.{Follower, Primary}
-use Rattle.paxos_spec.specs.Votes.{Value, Proposal}
+use Rattle.paxos_spec.specs.declared.cast.Proposal.{Proposal}
+use Rattle.paxos_spec.specs.Votes.{Value}
 use Rattle.paxos_spec.specs.Five.{five}
 use Rattle.paxos_spec.specs.Acceptor.{reach}
 use Rattle.paxos_spec.specs.Leader.{LeaderState, value_out}

@@ -7,7 +7,8 @@ use Rattle.wire_core.specs.declared.entry.Entry.{Entry}
 use Rattle.wire_core.specs.declared.entry.Entry.TheVariants as entry
 use Rattle.paxos_spec.specs.declared.mail.Body.TheVariants.{Accept}
 use Rattle.paxos_spec.specs.declared.mail.Mail.{Mail}
-use Rattle.paxos_spec.specs.Votes.{Value, Cast}
+use Rattle.paxos_spec.specs.declared.cast.Cast.{Cast}
+use Rattle.paxos_spec.specs.Votes.{Value}
 use Rattle.paxos_spec.specs.Acceptor.{AcceptorState, reach, most_slots, with_learned}
 use Rattle.paxos_spec.specs.Replica.{Out, mail}
 use Rattle.paxos_spec.specs.Agreement.{View, Disk, Placed, after, grown, IsChosen, HasLearned}

@@ -1,7 +1,8 @@
 -- What three promises tell: the key lemma.
 use Rattle.std.proofs.Common.{◌≡◌, ℕ, ◌<◌, ◌≤◌, inl, inr, true, ◌&&◌, ◌==◌, nat_lt, Option, Some, refl, sym, ap, ◌∙◌, arith, length-set, max, None}
 use Rattle.std.proofs.lemmas.Bool.Decides.{nat_tests}
-use Rattle.paxos_spec.specs.Votes.{Value, Cast, value_of}
+use Rattle.paxos_spec.specs.declared.cast.Cast.{Cast}
+use Rattle.paxos_spec.specs.Votes.{Value, value_of}
 use Rattle.paxos_spec.specs.Five.{joined, how_many}
 use Rattle.paxos_spec.specs.Leader.{Tally, tallied}
 use Rattle.paxos_spec.specs.Agreement.{View, HasVoted, Choosable}

@@ -5,7 +5,9 @@ use Rattle.paxos_spec.specs.declared.mail.Body.TheVariants.{Prepare, Promise, Ac
 use Rattle.paxos_spec.specs.declared.mail.Mail.{Mail}
 use Rattle.paxos_spec.specs.declared.stage.Stage.{Stage}
 use Rattle.paxos_spec.specs.declared.stage.Stage.TheVariants.{Follower, Candidate, Catching, Inheriting, Primary}
-use Rattle.paxos_spec.specs.Votes.{Value, Cast, cast, Proposal}
+use Rattle.paxos_spec.specs.declared.cast.Cast.{Cast}
+use Rattle.paxos_spec.specs.declared.cast.Proposal.{Proposal}
+use Rattle.paxos_spec.specs.Votes.{Value, cast}
 use Rattle.paxos_spec.specs.Five.{has}
 use Rattle.paxos_spec.specs.Acceptor.{reach}
 use Rattle.paxos_spec.specs.Leader.{Tally, LeaderState, value_out}

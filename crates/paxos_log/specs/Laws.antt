@@ -6,7 +6,8 @@ use Rattle.paxos_spec.specs.declared.mail.Body.{Body}
 use Rattle.paxos_spec.specs.declared.mail.Body.TheVariants.{Prepare, Accept}
 use Rattle.paxos_spec.specs.declared.mail.Mail.{Mail}
 use Rattle.paxos_spec.specs.declared.stage.Stage.TheVariants.{Follower}
-use Rattle.paxos_spec.specs.Votes.{Value, Proposal}
+use Rattle.paxos_spec.specs.declared.cast.Proposal.{Proposal}
+use Rattle.paxos_spec.specs.Votes.{Value}
 use Rattle.paxos_spec.specs.Leader.{candidate}
 use Rattle.paxos_spec.specs.Replica.{Memory, new_memory, with_leader, Out, quiet, to_all, on_message, on_campaign, on_offer}
 use Rattle.paxos_spec.specs.Agreement.{View, IsPrimary, IsChosen, Choosable, Agrees, LearnsChosen, OwnerLearned, PrimaryKnows, PrimarySeal, PrimaryLog, LogsAgree, IsBeginning, Seal}

@@ -3,7 +3,8 @@ use Rattle.std.specs.Prelude.{ℕ, ◌≡◌, List, [], ◌∷◌, ◌++◌, Opt
 use Rattle.wire_core.specs.Commands.{Release}
 use Rattle.paxos_spec.specs.declared.stage.Stage.{Stage}
 use Rattle.paxos_spec.specs.declared.stage.Stage.TheVariants.{Inheriting, Primary}
-use Rattle.paxos_spec.specs.Votes.{Value, Cast}
+use Rattle.paxos_spec.specs.declared.cast.Cast.{Cast}
+use Rattle.paxos_spec.specs.Votes.{Value}
 use Rattle.paxos_spec.specs.Leader.{value_out}
 use Rattle.paxos_log.specs.declared.event.PaxosEvent.{PaxosEvent}
 use Rattle.paxos_log.specs.declared.event.PaxosEvent.TheVariants.{Campaign, Offer, Deliver, Crash}
