@@ -2,7 +2,6 @@
 use Rattle.std.proofs.Common.{◌≡◌, ℕ, ◌<◌, ◌≤◌, ◌⊎◌, inl, inr, Some, None, sym, arith, subst}
 use Rattle.paxos_spec.specs.Votes.{Value}
 use Rattle.paxos_spec.specs.Acceptor.{reach}
-use Rattle.paxos_spec.specs.Leader.{LeaderState}
 use Rattle.paxos_spec.specs.Agreement.{View, IsPrimary, IsChosen, Choosable, Agrees, LearnsChosen, PrimaryKnows, PrimarySeal, OwnerLearned, PrimaryLog, LogsAgree}
 use Rattle.paxos_log.specs.Facts.{Proposed, LeadingOk, StageOk, Inv}
 use Rattle.paxos_log.proofs.Quorums.{three_on}

@@ -7,7 +7,7 @@ use Rattle.wire_core.specs.declared.entry.Entry.{Entry}
 use Rattle.wire_core.specs.declared.entry.Entry.TheVariants as entry
 use Rattle.wire_core.specs.Same.{same_value}
 use Rattle.paxos_spec.specs.declared.mail.Body.{Body}
-use Rattle.paxos_spec.specs.declared.mail.Body.TheVariants.{Prepare, Promise, Accept, Accepted, Refuse, Chosen, Fetch}
+use Rattle.paxos_spec.specs.declared.mail.Body.TheVariants.{Prepare, Accept, Accepted, Refuse, Chosen, Fetch}
 use Rattle.paxos_spec.specs.declared.mail.Mail.{Mail}
 use Rattle.paxos_spec.specs.declared.stage.Stage.{Stage}
 use Rattle.paxos_spec.specs.declared.stage.Stage.TheVariants.{Follower, Candidate, Catching, Inheriting, Primary}
@@ -20,9 +20,9 @@ use Rattle.paxos_spec.specs.declared.cast.Cast.{Cast}
 use Rattle.paxos_spec.specs.declared.cast.Proposal.{Proposal}
 use Rattle.paxos_spec.specs.Votes.{Value, no_vote, value_of, cast}
 use Rattle.paxos_spec.specs.Five.{five, nobody, has, joined, how_many, next_ballot}
-use Rattle.paxos_spec.specs.Acceptor.{AcceptorState, reach, most_slots, stands}
-use Rattle.paxos_spec.specs.Leader.{LeaderState, Tally, no_tally, tallied, is_follower, is_candidate, is_catching, is_primary, is_leading, is_idle, value_out, candidate, campaign, proposing, primary, arrive, third_promise, with_tally, with_counted, lead_accepted_of, lead_reached}
-use Rattle.paxos_spec.specs.Replica.{Memory, with_leader, with_goal, down, Out, mail, to_all, promise_of, prepared, on_prepare, led_by, on_promise, accepted, on_accept, tallied_by, on_accepted, on_refuse, fetch_more, once_learned, learned, on_chosen, fetched, campaigned_by, on_campaign, on_offer}
+use Rattle.paxos_spec.specs.Acceptor.{reach, most_slots, stands}
+use Rattle.paxos_spec.specs.Leader.{LeaderState, Tally, no_tally, tallied, is_follower, is_candidate, is_catching, is_primary, is_leading, is_idle, value_out, stepped_down, candidate, proposing, primary, arrive, third_promise, with_tally, with_counted, lead_accepted_of}
+use Rattle.paxos_spec.specs.Replica.{Memory, with_leader, with_goal, down, mail, to_all, promise_of, prepared, on_prepare, led_by, on_promise, accepted, on_accept, tallied_by, on_accepted, on_refuse, fetch_more, onwards, once_learned, learned, accept_out, on_chosen, fetched, campaigned_by, on_campaign, on_offer}
 use Rattle.paxos_spec.specs.Agreement.{View, Disk, after, grown, HasVoted, IsChosen}
 use Rattle.paxos_log.specs.Facts.{LearnOk, Proposed, Pends, PromiseOk, AcceptOk, DiskOk, VoteOk, Owns, NoneYet, TallyOk, CandidateOk, CatchingOk, CountedOk, LeadingOk, StageOk, Inv, WasProposed}
 use Rattle.paxos_log.specs.Steps.{EntryOk, Learns, GoodOut, Here}
@@ -122,9 +122,10 @@ slot_is : (x p : Proposal) → Some x ≡ Some p → x.slot ≡ p.slot
 slot_is x p e = (let same : x ≡ p = cc in ap (λ (q : Proposal). q.slot) same)
 
 -- The arrival, at a disk that owns its ballot and has the length from which the value pends.
-pub arrive_good : (w : View) (r : ℕ) (a : AcceptorState) (e : Option Entry) (m : Memory) (at : ℕ) (o : Option Value) → Here w r → EntryOk w r (w.disk r) e
-    → Owns r (grown (w.disk r) e) m.leader → NoneYet w m.leader.ballot → at ≡ reach (grown (w.disk r) e).state → Pends w m.leader.ballot at o → WasProposed w at o → GoodOut None w r (led_by r a e m (arrive m.leader at o))
-arrive_good w r a e m at None h ok owns none_yet len pends source =
+pub arrive_good : (w : View) (r : ℕ) (e : Option Entry) (m : Memory) (at : ℕ) (o : Option Value) → Here w r → EntryOk w r (w.disk r) e
+    → Owns r (grown (w.disk r) e) m.leader → NoneYet w m.leader.ballot → at ≡ reach (grown (w.disk r) e).state → Pends w m.leader.ballot at o → WasProposed w at o
+    → GoodOut None w r (record { entry = e; memory = with_leader m (arrive m.leader at o).0; sends = accept_out r at (arrive m.leader at o).0 })
+arrive_good w r e m at None h ok owns none_yet len pends source =
     good_silent w r e (with_leader m (primary m.leader)) h.number h.inv ok (λ u a. record {
       owns = record { promise = owns.promise; owner = owns.owner; positive = owns.positive };
       pends = rw len at (pends_on a.grows m.leader.ballot at None pends);
@@ -134,7 +135,7 @@ arrive_good w r a e m at None h ok owns none_yet len pends source =
       size = refl;
       counted = λ i f. nobody_set i f;
     })
-arrive_good w r a e m at (Some v) h ok owns none_yet len pends source =
+arrive_good w r e m at (Some v) h ok owns none_yet len pends source =
     good_one None w r e (with_leader m (proposing Inheriting m.leader at v)) (Accept m.leader.ballot at v) five h.number h.inv ok (λ b s x e. inr (let is : at ≡ s = cc in let val : v ≡ x = cc in rw (← is, ← val) (source v refl))) (λ u n. record {
       body_ok = record {
         safe = λ a x lt can. (let p : (at ≡ at) × (Some v ≡ Some x) = pends at a x lt (omega arith) (choosable_back n.grows can) in let q : Some v ≡ Some x = p.1 in cc);
@@ -160,11 +161,17 @@ arrive_good w r a e m at (Some v) h ok owns none_yet len pends source =
       };
     })
 
+-- the same, after a promise
+arrived_good : (w : View) (r : ℕ) (m : Memory) (at : ℕ) (o : Option Value) → Here w r
+    → Owns r (w.disk r) m.leader → NoneYet w m.leader.ballot → at ≡ reach (w.disk r).state → Pends w m.leader.ballot at o → WasProposed w at o → GoodOut None w r (led_by r at m (arrive m.leader at o))
+arrived_good w r m at None h owns none_yet len pends source = arrive_good w r None m at None h tt owns none_yet len pends source
+arrived_good w r m at (Some v) h owns none_yet len pends source = arrive_good w r None m at (Some v) h tt owns none_yet len pends source
+
 third_good : (w : View) (r : ℕ) (t : Tally) → Here w r → Owns r (w.disk r) (w.memory r).leader → NoneYet w (w.memory r).leader.ballot
-    → TallyOk w (w.memory r).leader.ballot t → 3 ≤ how_many t.tellers → GoodOut None w r (led_by r (w.disk r).state None (w.memory r) (third_promise (w.memory r).leader t (reach (w.disk r).state)))
+    → TallyOk w (w.memory r).leader.ballot t → 3 ≤ how_many t.tellers → GoodOut None w r (led_by r (reach (w.disk r).state) (w.memory r) (third_promise (w.memory r).leader t (reach (w.disk r).state)))
 third_good w r t h owns none_yet all three =
     let m : Memory = w.memory r in let l : LeaderState = m.leader in let d : Disk = w.disk r in
-    by_if (λ (x : LeaderState × LeadStep). GoodOut None w r (led_by r d.state None m x)) (nat_lt (reach d.state) t.longest)
+    by_if (λ (x : LeaderState × LeadStep). GoodOut None w r (led_by r (reach d.state) m x)) (nat_lt (reach d.state) t.longest)
     (λ short. good_same w r (with_goal (with_leader m (record { stage = Catching; ballot = l.ballot; tally = no_tally; sought = t.longest; pending = value_of t.best; out = None; counted = nobody })) t.longest t.source)
     (Fetch (reach d.state)) (t.source ∷ []) h.number h.inv tt tt
     (record {
@@ -173,10 +180,10 @@ third_good w r t h owns none_yet all three =
       pends = told_pends w h.inv l.ballot t all three none_yet;
       source = told_source w h.inv l.ballot t all;
     }))
-    (λ long. by_if (λ (o : Option Value). GoodOut None w r (led_by r d.state None m (arrive l (reach d.state) o))) (reach d.state == t.longest)
-    (λ same. (let is : reach d.state ≡ t.longest = grind (arith, nat_tests) in arrive_good w r d.state None m (reach d.state) (value_of t.best) h tt owns none_yet refl
+    (λ long. by_if (λ (o : Option Value). GoodOut None w r (led_by r (reach d.state) m (arrive l (reach d.state) o))) (reach d.state == t.longest)
+    (λ same. (let is : reach d.state ≡ t.longest = grind (arith, nat_tests) in arrived_good w r m (reach d.state) (value_of t.best) h owns none_yet refl
     (rw is (told_pends w h.inv l.ballot t all three none_yet)) (rw is (told_source w h.inv l.ballot t all))))
-    (λ other. arrive_good w r d.state None m (reach d.state) None h tt owns none_yet refl
+    (λ other. arrived_good w r m (reach d.state) None h owns none_yet refl
     (told_seals w h.inv l.ballot (reach d.state) t all three (grind (arith, nat_tests))) (λ v e. absurd (cc))))
 
 not_false : (b : Bool) → not b ≡ true → b ≡ false
@@ -187,14 +194,14 @@ pub promise_good : (w : View) (r from c l : ℕ) (vote : Cast) → Here w r → 
 unfolding on_promise
 promise_good w r from c len vote h from5 ok =
     let d : Disk = w.disk r in let m : Memory = w.memory r in let l : LeaderState = m.leader in
-    by_if (λ (x : LeaderState × LeadStep). GoodOut None w r (led_by r d.state None m x)) (is_candidate l.stage && (l.ballot == c) && not (has l.tally.tellers from))
+    by_if (λ (x : LeaderState × LeadStep). GoodOut None w r (led_by r (reach d.state) m x)) (is_candidate l.stage && (l.ballot == c) && not (has l.tally.tellers from))
     (λ yes.
     let parts : ((is_candidate l.stage && (l.ballot == c)) ≡ true) × (not (has l.tally.tellers from) ≡ true) = and_true _ _ yes in
     let stage : l.stage ≡ Candidate = candidate_at l.stage (and_true _ _ parts.0).0 in
     let same : l.ballot ≡ c = (let e : (l.ballot == c) ≡ true = (and_true _ _ parts.0).1 in grind (arith, nat_tests)) in
     let can : CandidateOk w r d l = subst (StageOk w r d l) stage (stage_here w r h) in
     let all : TallyOk w l.ballot (tallied l.tally from len vote) = tallied_ok w l.ballot l.tally from len vote from5 (rw same ok) can.tally in
-    by_if (λ (x : LeaderState × LeadStep). GoodOut None w r (led_by r d.state None m x)) (nat_lt (how_many (joined l.tally.tellers from)) 3)
+    by_if (λ (x : LeaderState × LeadStep). GoodOut None w r (led_by r (reach d.state) m x)) (nat_lt (how_many (joined l.tally.tellers from)) 3)
     (λ few. good_quiet w r (with_leader m (with_tally l (tallied l.tally from len vote))) h.number h.inv
     (subst (StageOk w r d (with_tally l (tallied l.tally from len vote))) (sym stage)
     (record { owns = record { promise = can.owns.promise; owner = can.owns.owner; positive = can.owns.positive }; none_yet = can.none_yet; tally = all })))
@@ -318,9 +325,12 @@ accepted_of w r from c s v (Some p) h is from5 voted room =
 
 pub accepted_good : (w : View) (r from c s : ℕ) (v : Value) → Here w r → from < 5 → HasVoted w from s c v → GoodOut None w r (on_accepted r (w.disk r).state (w.memory r) from c s)
 unfolding on_accepted
-accepted_good w r from c s v h from5 voted = by_if (GoodOut None w r) (nat_le most_slots (reach (w.disk r).state))
+accepted_good w r from c s v h from5 voted = by_if (GoodOut None w r) ((s == reach (w.disk r).state) && nat_lt (reach (w.disk r).state) most_slots)
+    (λ next.
+    let both : ((s == reach (w.disk r).state) ≡ true) × (nat_lt (reach (w.disk r).state) most_slots ≡ true) = and_true _ _ next in
+    let room : reach (w.disk r).state < most_slots = (let e : nat_lt (reach (w.disk r).state) most_slots ≡ true = both.1 in grind (arith, nat_tests)) in
+    accepted_of w r from c s v (w.memory r).leader.out h refl from5 voted room)
     (λ _. good_quiet w r (w.memory r) h.number h.inv (stage_here w r h))
-    (λ room. accepted_of w r from c s v (w.memory r).leader.out h refl from5 voted (grind (arith, nat_tests)))
 
 pub refuse_good : (w : View) (r c p : ℕ) → Here w r → GoodOut None w r (on_refuse (w.memory r) c p)
 unfolding on_refuse
@@ -353,40 +363,40 @@ or_false false true e = absurd (cc)
 or_false true b e = absurd (cc)
 
 -- what is fetched next changes nothing else
-fetches : (w : View) (r length : ℕ) (e : Entry) (m : Memory) → Here w r → EntryOk w r (w.disk r) (Some e)
-    → ((u : View) → After w u r (Some e) → StageOk u r (grown (w.disk r) (Some e)) m.leader m.leader.stage) → GoodOut None w r (fetch_more r length e m)
-fetches w r length e m h ok f =
-    by_if (λ (xs : List Mail). GoodOut None w r (record { entry = Some e; memory = m; sends = xs })) (nat_lt length m.goal)
-    (λ _. good_plain w r (Some e) m (Fetch length) (m.guide ∷ []) h.number h.inv tt ok (λ u a. (tt, f u a)))
-    (λ _. good_silent w r (Some e) m h.number h.inv ok f)
+fetches : (w : View) (r at : ℕ) (e : Entry) (l : LeaderState) (m n : Memory) → Here w r → EntryOk w r (w.disk r) (Some e)
+    → ((u : View) → After w u r (Some e) → StageOk u r (grown (w.disk r) (Some e)) l l.stage) → GoodOut None w r (once_learned e m (l, fetch_more r at n))
+fetches w r at e l m n h ok f =
+    by_if (λ (xs : List Mail). GoodOut None w r (record { entry = Some e; memory = with_leader m l; sends = xs })) (nat_lt at n.goal)
+    (λ _. good_plain w r (Some e) (with_leader m l) (Fetch at) (n.guide ∷ []) h.number h.inv tt ok (λ u a. (tt, f u a)))
+    (λ _. good_silent w r (Some e) (with_leader m l) h.number h.inv ok f)
 
 -- its log is longer by one
 reach_learned : (d : Disk) (c : ℕ) (v : Value) → reach d.state < most_slots → reach d.state + 1 ≡ reach (after d (entry.Learn c v)).state
 reach_learned d c v room = subst (λ (x : Disk). reach d.state + 1 ≡ reach x.state) (sym (after_learned d c v room)) (sym (length-append d.state.log _))
 
 learned_good : (w : View) (r c : ℕ) (v : Value) → Here w r → Learns w r (w.disk r) c v
-    → GoodOut None w r (once_learned r (w.disk r).state (max (w.disk r).state.promise c) (reach (w.disk r).state + 1) (entry.Learn c v) (w.memory r))
-unfolding once_learned
+    → GoodOut None w r (once_learned (entry.Learn c v) (w.memory r) (onwards r (max (w.disk r).state.promise c) (reach (w.disk r).state + 1) (w.memory r)))
 learned_good w r c v h chosen =
     let d : Disk = w.disk r in let m : Memory = w.memory r in let l : LeaderState = m.leader in
     let stage : StageOk w r d l l.stage = stage_here w r h in
-    by_if (GoodOut None w r) (is_leading l.stage || nat_lt l.ballot (max d.state.promise c))
-    (λ _. fetches w r (reach d.state + 1) (entry.Learn c v) (down m) h chosen (λ u a. tt))
+    by_if (λ (x : LeaderState × List Mail). GoodOut None w r (once_learned (entry.Learn c v) m x)) (is_leading l.stage || nat_lt l.ballot (max d.state.promise c))
+    (λ _. fetches w r (reach d.state + 1) (entry.Learn c v) (stepped_down l) m m h chosen (λ u a. tt))
     (λ stays.
     let parts : (is_leading l.stage ≡ false) × (nat_lt l.ballot (max d.state.promise c) ≡ false) = or_false _ _ stays in
     let le : max d.state.promise c ≤ l.ballot = (let e : nat_lt l.ballot (max d.state.promise c) ≡ false = parts.1 in grind (arith, nat_tests)) in
-    by_if (GoodOut None w r) (is_catching l.stage && ((reach d.state + 1) == l.sought))
+    by_if (λ (x : LeaderState × List Mail). GoodOut None w r (once_learned (entry.Learn c v) m x)) (is_catching l.stage && ((reach d.state + 1) == l.sought))
     (λ there.
     let both : (is_catching l.stage ≡ true) × (((reach d.state + 1) == l.sought) ≡ true) = and_true _ _ there in
     let cat : CatchingOk w r d l = subst (StageOk w r d l) (catching_at l.stage both.0) stage in
     let at : l.sought ≡ reach d.state + 1 = (let e : ((reach d.state + 1) == l.sought) ≡ true = both.1 in grind (arith, nat_tests)) in
-    arrive_good w r d.state (Some (entry.Learn c v)) m l.sought l.pending h chosen
+    subst (λ (n : ℕ). GoodOut None w r (record { entry = Some (entry.Learn c v); memory = with_leader m (arrive l l.sought l.pending).0; sends = accept_out r n (arrive l l.sought l.pending).0 })) at
+    (arrive_good w r (Some (entry.Learn c v)) m l.sought l.pending h chosen
     (rw (after_learned d c v chosen.room) record { promise = (let is = cat.owns.promise in omega arith); owner = cat.owns.owner; positive = cat.owns.positive })
-    cat.none_yet (at ∙ reach_learned d c v chosen.room) cat.pends cat.source)
-    (λ _. fetches w r (reach d.state + 1) (entry.Learn c v) m h chosen (λ u a. goes_on w u r c v l l.stage chosen.room a parts.0 le stage)))
+    cat.none_yet (at ∙ reach_learned d c v chosen.room) cat.pends cat.source))
+    (λ _. fetches w r (reach d.state + 1) (entry.Learn c v) l m m h chosen (λ u a. goes_on w u r c v l l.stage chosen.room a parts.0 le stage)))
 
 learned_at : (w : View) (r c s : ℕ) (v : Value) → Here w r → reach (w.disk r).state < most_slots → s ≡ reach (w.disk r).state → LearnOk w s c v
-    → GoodOut None w r (once_learned r (w.disk r).state (max (w.disk r).state.promise c) (s + 1) (entry.Learn c v) (w.memory r))
+    → GoodOut None w r (once_learned (entry.Learn c v) (w.memory r) (onwards r (max (w.disk r).state.promise c) (s + 1) (w.memory r)))
 learned_at w r c s v h room here chosen = rw here (learned_good w r c v h (record { chosen = rw here at chosen.chosen; owner = inl (rw here at chosen.owner); room = room }))
 
 pub chosen_good : (w : View) (r from c s : ℕ) (v : Value) → Here w r → LearnOk w s c v → GoodOut None w r (on_chosen r (w.disk r).state (w.memory r) from s c v)

@@ -3,24 +3,24 @@ use Rattle.std.proofs.Common.{◌≡◌, inl, inr, ℕ, Some, None, sym, arith, 
 use Rattle.wire_core.specs.declared.entry.Entry.{Entry}
 use Rattle.paxos_spec.specs.declared.mail.Body.{Body}
 use Rattle.paxos_spec.specs.declared.mail.Body.TheVariants.{Accept}
-use Rattle.paxos_spec.specs.declared.stage.Stage.TheVariants.{Follower, Primary}
-use Rattle.paxos_spec.specs.declared.cast.Proposal.{Proposal}
+use Rattle.paxos_spec.specs.declared.stage.Stage.TheVariants.{Follower}
 use Rattle.paxos_spec.specs.Votes.{Value}
 use Rattle.paxos_spec.specs.Five.{five}
 use Rattle.paxos_spec.specs.Acceptor.{reach}
 use Rattle.paxos_spec.specs.Leader.{LeaderState, value_out}
 use Rattle.paxos_spec.specs.Replica.{Memory, new_memory, quiet, to_all, Out}
-use Rattle.paxos_spec.specs.Agreement.{View, Disk, IsPrimary, IsChosen, Seal, PrimarySeal}
-use Rattle.paxos_log.specs.Facts.{BodyOk, LeadingOk, StageOk, Inv, Proposed}
+use Rattle.paxos_spec.specs.Agreement.{View, Disk, IsPrimary, IsChosen, Seal}
+use Rattle.paxos_log.specs.Facts.{BodyOk, LeadingOk, StageOk, Proposed}
 use Rattle.paxos_log.specs.Steps.{Moves, Grows, EntryOk, Good, GoodOut, Here, IsPlain, one_body}
 use Rattle.paxos_log.proofs.Quorums.{three_on}
 use Rattle.paxos_log.proofs.Growth.{pends_on, choosable_back, counted_on, source_on}
 use Rattle.paxos_log.proofs.Steps.{was_sent}
 use Rattle.paxos_log.proofs.Plain.{good_one, good_same, good_quiet, good_silent}
 
-resend_at : (w : View) (r : ℕ) (v : Value) → Here w r → IsPrimary w r → value_out (w.memory r).leader.out ≡ Some v
+-- A primary sends what is outstanding again.
+pub resend_good : (w : View) (r : ℕ) (v : Value) → Here w r → IsPrimary w r → value_out (w.memory r).leader.out ≡ Some v
     → GoodOut None w r (record { entry = None; memory = w.memory r; sends = to_all r (Accept (w.memory r).leader.ballot (reach (w.disk r).state) v) })
-resend_at w r v h is out =
+resend_good w r v h is out =
     let d : Disk = w.disk r in let m : Memory = w.memory r in let l : LeaderState = m.leader in
     let stage : StageOk w r d l l.stage = h.inv.mems r h.number in
     let lead : LeadingOk w r d l None = subst (StageOk w r d l) is stage in
@@ -49,14 +49,6 @@ resend_at w r v h is out =
         counted = λ i f. counted_on n.grows (reach d.state) l.ballot i (lead.counted i f);
       });
     })
-
--- A primary sends what is outstanding again.
-pub resend_good : (w : View) (r : ℕ) (p : Proposal) → Here w r → IsPrimary w r → (w.memory r).leader.out ≡ Some p
-    → GoodOut None w r (record { entry = None; memory = w.memory r; sends = to_all r (Accept (w.memory r).leader.ballot p.slot p.value) })
-resend_good w r p h is out =
-    let l : LeaderState = (w.memory r).leader in
-    let lead : LeadingOk w r (w.disk r) l None = subst (StageOk w r (w.disk r) l) is (h.inv.mems r h.number) in
-    subst (λ (s : ℕ). GoodOut None w r (record { entry = None; memory = w.memory r; sends = to_all r (Accept l.ballot s p.value) })) (sym (lead.place p out)) (resend_at w r p.value h is (ap value_out out))
 
 -- It remembers something else, and says what needs no proof or has it.
 pub says_good : (w : View) (r : ℕ) (m : Memory) (body : Body) (ts : List ℕ) → Here w r → m.leader ≡ (w.memory r).leader → IsPlain body → BodyOk w r body → GoodOut None w r (one_body r None m body ts)

@@ -4,13 +4,13 @@ use Rattle.std.specs.Prelude.{Contains}
 use Rattle.std.proofs.lemmas.List.Elements.{All-map, All-contains}
 use Rattle.wire_core.specs.declared.entry.Entry.{Entry}
 use Rattle.paxos_spec.specs.declared.mail.Body.{Body}
-use Rattle.paxos_spec.specs.declared.mail.Body.TheVariants.{Prepare, Promise, Accept, Accepted, Refuse, Chosen, Fetch}
+use Rattle.paxos_spec.specs.declared.mail.Body.TheVariants.{Accept, Fetch}
 use Rattle.paxos_spec.specs.declared.mail.Mail.{Mail}
 use Rattle.paxos_spec.specs.Votes.{Value}
 use Rattle.paxos_spec.specs.Replica.{Memory, Out, mail}
 use Rattle.paxos_spec.specs.Agreement.{View, Disk, grown}
 use Rattle.paxos_log.specs.Facts.{Proposed, BodyOk, MailOk, DiskOk, StageOk, Inv, AcceptOk}
-use Rattle.paxos_log.specs.Steps.{Moves, Grows, EntryOk, Good, GoodOut, IsPlain, one_body}
+use Rattle.paxos_log.specs.Steps.{Grows, EntryOk, Good, GoodOut, IsPlain, one_body}
 use Rattle.paxos_log.proofs.Growth.{body_on, stage_on}
 use Rattle.paxos_log.proofs.Steps.{grows, disk_kept, was_sent}
 

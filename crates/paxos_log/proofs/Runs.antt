@@ -1,6 +1,6 @@
 -- Every world of every run is in order.
-use Rattle.std.proofs.Common.{length, ◌∙◌, ap, get_or-set_same, get_or-set_other, length-set, ◌≡◌, ◌-◌, ℕ, zero, suc, ◌<◌, ◌≤◌, ◌⊎◌, inl, inr, true, false, ◌==◌, nat_lt, List, [], ◌∷◌, ◌++◌, map, Option, Some, None, slice_get, slice_set, Result, Ok, Err, refl, sym, arith, subst}
-use Rattle.std.specs.Prelude.{Contains, fold, if◌then◌else◌}
+use Rattle.std.proofs.Common.{length, ◌∙◌, ap, get_or-set_same, get_or-set_other, length-set, ◌≡◌, ◌-◌, ℕ, zero, suc, ◌<◌, true, false, nat_lt, List, [], ◌∷◌, ◌++◌, map, Option, Some, None, slice_get, slice_set, refl, sym, arith, subst}
+use Rattle.std.specs.Prelude.{Contains, fold}
 use Rattle.std.proofs.lemmas.Bool.Decides.{nat_tests}
 use Rattle.std.proofs.lemmas.List.Elements.{All-contains}
 use Rattle.std.proofs.lemmas.Grind.{fold-append}
@@ -10,18 +10,18 @@ use Rattle.paxos_spec.specs.declared.mail.Body.{Body}
 use Rattle.paxos_spec.specs.declared.mail.Body.TheVariants.{Prepare, Promise, Accept, Accepted, Refuse, Chosen, Fetch}
 use Rattle.paxos_spec.specs.declared.mail.Mail.{Mail}
 use Rattle.paxos_spec.specs.Votes.{Value, cast}
-use Rattle.paxos_spec.specs.Acceptor.{AcceptorState, new_acceptor, follow, state_of}
-use Rattle.paxos_spec.specs.Replica.{Memory, new_memory, mail, Out, quiet, on_message, on_campaign, on_offer}
+use Rattle.paxos_spec.specs.Acceptor.{AcceptorState, follow, state_of}
+use Rattle.paxos_spec.specs.Replica.{new_memory, mail, Out, quiet, on_message, on_campaign, on_offer}
 use Rattle.paxos_spec.specs.Agreement.{View, Disk, empty_disk, after, grown}
 use Rattle.paxos_log.specs.declared.event.PaxosEvent.{PaxosEvent}
 use Rattle.paxos_log.specs.declared.event.PaxosEvent.TheVariants.{Campaign, Offer, Deliver, Crash}
 use Rattle.paxos_log.specs.declared.event.Post.{Post}
 use Rattle.paxos_log.specs.Facts.{Proposed, BodyOk, MailOk, Inv}
-use Rattle.paxos_log.specs.Steps.{Moves, EntryOk, GoodOut, Here}
-use Rattle.paxos_log.specs.World.{Replica, World, new_replica, start, replica, with_entry, stepped, posted, apply, cut_short, on_mail, takes, delivered, waiting, reopens, cut_at, cut_while, whole_value, offered, happens, run, disk_of, view}
+use Rattle.paxos_log.specs.Steps.{Moves, GoodOut, Here}
+use Rattle.paxos_log.specs.World.{Replica, World, new_replica, start, replica, with_entry, posted, apply, cut_short, on_mail, takes, delivered, waiting, reopens, cut_at, cut_while, whole_value, offered, happens, run, disk_of, view}
 use Rattle.paxos_log.proofs.Quorums.{by_if}
 use Rattle.paxos_log.proofs.Steps.{keeps, in_head, in_tail}
-use Rattle.paxos_log.proofs.Plain.{good_silent, good_quiet}
+use Rattle.paxos_log.proofs.Plain.{good_quiet}
 use Rattle.paxos_log.proofs.Handlers.{prepare_good, promise_good, accept_good, accepted_good, refuse_good, chosen_good, fetched_good, campaign_good, offer_good}
 use Rattle.paxos_log.proofs.More.{reopened_good}
 

@@ -1,6 +1,6 @@
 -- A step of one replica keeps what holds of every world.
-use Rattle.std.proofs.Common.{◌≡◌, ◌≢◌, ℕ, zero, suc, ◌+◌, ◌%◌, ◌<◌, ◌≤◌, ◌⊎◌, inl, inr, max, List, [], ◌∷◌, ◌++◌, length, Option, Some, None, slice_get, refl, sym, ap, ◌∙◌, arith, subst, length-append, nat_lt, Bool, true}
-use Rattle.std.specs.Prelude.{Contains, All, if◌then◌else◌}
+use Rattle.std.proofs.Common.{◌≡◌, ◌≢◌, ℕ, zero, suc, ◌+◌, ◌%◌, ◌<◌, ◌≤◌, ◌⊎◌, inl, inr, max, List, [], ◌∷◌, ◌++◌, length, Option, Some, None, slice_get, refl, sym, ap, ◌∙◌, arith, subst, length-append, nat_lt, true}
+use Rattle.std.specs.Prelude.{Contains, All}
 use Rattle.std.proofs.lemmas.Bool.Decides.{nat_tests}
 use Rattle.std.proofs.lemmas.List.Elements.{Contains-append_cases, Contains-append_left, All-append, All-weaker, All-contains}
 use Rattle.wire_core.specs.declared.entry.Entry.{Entry}
@@ -11,9 +11,9 @@ use Rattle.paxos_spec.specs.declared.cast.Cast.{Cast}
 use Rattle.paxos_spec.specs.Votes.{Value}
 use Rattle.paxos_spec.specs.Acceptor.{AcceptorState, reach, most_slots, with_learned}
 use Rattle.paxos_spec.specs.Replica.{Out, mail}
-use Rattle.paxos_spec.specs.Agreement.{View, Disk, Placed, after, grown, IsChosen, HasLearned}
-use Rattle.paxos_log.specs.Facts.{LearnOk, Proposed, MailOk, VoteOk, DiskOk, StageOk, Inv}
-use Rattle.paxos_log.specs.Steps.{Moves, Grows, Learns, EntryOk, SendsAccept, Good}
+use Rattle.paxos_spec.specs.Agreement.{View, Disk, Placed, after, grown}
+use Rattle.paxos_log.specs.Facts.{LearnOk, Proposed, MailOk, VoteOk, DiskOk, Inv}
+use Rattle.paxos_log.specs.Steps.{Moves, Grows, EntryOk, SendsAccept, Good}
 use Rattle.paxos_log.proofs.Quorums.{by_same, by_if}
 use Rattle.paxos_log.proofs.Growth.{chosen_on, mail_on, disk_on, stage_on, NoNew}
 

@@ -6,9 +6,9 @@ use Rattle.paxos_spec.specs.declared.mail.Body.{Body}
 use Rattle.paxos_spec.specs.declared.mail.Body.TheVariants.{Prepare, Accept}
 use Rattle.paxos_spec.specs.declared.mail.Mail.{Mail}
 use Rattle.paxos_spec.specs.declared.stage.Stage.TheVariants.{Follower}
-use Rattle.paxos_spec.specs.declared.cast.Proposal.{Proposal}
 use Rattle.paxos_spec.specs.Votes.{Value}
-use Rattle.paxos_spec.specs.Leader.{candidate}
+use Rattle.paxos_spec.specs.Acceptor.{reach}
+use Rattle.paxos_spec.specs.Leader.{candidate, value_out}
 use Rattle.paxos_spec.specs.Replica.{Memory, new_memory, with_leader, Out, quiet, to_all, on_message, on_campaign, on_offer}
 use Rattle.paxos_spec.specs.Agreement.{View, IsPrimary, IsChosen, Choosable, Agrees, LearnsChosen, OwnerLearned, PrimaryKnows, PrimarySeal, PrimaryLog, LogsAgree, IsBeginning, Seal}
 use Rattle.paxos_log.specs.Facts.{BodyOk, Proposed, Inv}
@@ -54,8 +54,8 @@ OfferIsGood = (w : View) (r : ℕ) (v : Value) → Here w r → GoodOut (Some v)
 
 -- a primary sends what is outstanding again
 abbrev pub ResendIsGood : Type 0
-ResendIsGood = (w : View) (r : ℕ) (p : Proposal) → Here w r → IsPrimary w r → (w.memory r).leader.out ≡ Some p
-    → GoodOut None w r (record { entry = None; memory = w.memory r; sends = to_all r (Accept (w.memory r).leader.ballot p.slot p.value) })
+ResendIsGood = (w : View) (r : ℕ) (v : Value) → Here w r → IsPrimary w r → value_out (w.memory r).leader.out ≡ Some v
+    → GoodOut None w r (record { entry = None; memory = w.memory r; sends = to_all r (Accept (w.memory r).leader.ballot (reach (w.disk r).state) v) })
 
 -- it remembers something else, and says something true that proposes nothing
 abbrev pub SayingIsGood : Type 0

@@ -1,5 +1,5 @@
 -- What a replica does with each message, when it runs for election, and when a value is offered to it.
-use Rattle.std.specs.Prelude.{ℕ, ◌+◌, max, Bool, not, ◌&&◌, ◌||◌, if◌then◌else◌, nat_lt, nat_le, ◌==◌, List, [], ◌∷◌, map, filter, Option, Some, None, slice_get}
+use Rattle.std.specs.Prelude.{ℕ, ◌+◌, max, Bool, not, ◌&&◌, ◌||◌, if◌then◌else◌, nat_lt, ◌==◌, List, [], ◌∷◌, map, filter, Option, Some, None, slice_get}
 use Rattle.wire_core.specs.declared.entry.Entry.{Entry}
 use Rattle.wire_core.specs.declared.entry.Entry.TheVariants as entry
 use Rattle.paxos_spec.specs.declared.mail.Body.{Body}
@@ -16,7 +16,6 @@ use Rattle.paxos_spec.specs.declared.steps.LeadStep.TheVariants as lead
 use Rattle.paxos_spec.specs.declared.steps.Counted.{Counted}
 use Rattle.paxos_spec.specs.declared.steps.Counted.TheVariants as counted
 use Rattle.paxos_spec.specs.declared.cast.Cast.{Cast}
-use Rattle.paxos_spec.specs.declared.cast.Proposal.{Proposal}
 use Rattle.paxos_spec.specs.Votes.{Value, cast, value_of}
 use Rattle.paxos_spec.specs.Five.{five}
 use Rattle.paxos_spec.specs.Acceptor.{AcceptorState, reach, most_slots, prepare_step, accept_step, chosen_step}
@@ -77,29 +76,28 @@ prepared me a m from ballot prepare.Promise = record { entry = Some (entry.Promi
 unfoldable pub on_prepare : ℕ → AcceptorState → Memory → ℕ → ℕ → Out
 on_prepare me a m from ballot = prepared me a m from ballot (prepare_step a ballot)
 
--- the Accept of what is outstanding
-abbrev pub accept_out : Option Proposal → ℕ → ℕ → List Mail
-accept_out None me ballot = []
-accept_out (Some p) me ballot = to_all me (Accept ballot p.slot p.value)
+abbrev pub accept_of : ℕ → ℕ → ℕ → Option Value → List Mail
+accept_of me at ballot None = []
+accept_of me at ballot (Some value) = to_all me (Accept ballot at value)
 
--- Where a leader has come, with the entry of the step.
-abbrev pub led : ℕ → AcceptorState → Option Entry → Memory → LeaderState → LeadStep → Out
-led me a e m l lead.Late = record { entry = e; memory = with_leader m l; sends = [] }
-led me a e m l lead.More = record { entry = e; memory = with_leader m l; sends = [] }
-led me a e m l (lead.Catch from slot) = record {
-  entry = e;
-  memory = with_goal (with_leader m l) slot from;
-  sends = mail me (Fetch (reach a)) from ∷ [];
-}
-led me a e m l lead.Inherit = record { entry = e; memory = with_leader m l; sends = accept_out l.out me l.ballot }
-led me a e m l lead.Ready = record { entry = e; memory = with_leader m l; sends = [] }
+-- the Accept of what is outstanding, if anything is, for the slot at the log's end
+abbrev pub accept_out : ℕ → ℕ → LeaderState → List Mail
+accept_out me at l = accept_of me at l.ballot (value_out l.out)
 
-abbrev pub led_by : ℕ → AcceptorState → Option Entry → Memory → LeaderState × LeadStep → Out
-led_by me a e m x = led me a e m x.0 x.1
+-- Where a promise brought a leader whose log has this length.
+abbrev pub led : ℕ → ℕ → Memory → LeaderState → LeadStep → Out
+led me at m l lead.Late = quiet (with_leader m l)
+led me at m l lead.More = quiet (with_leader m l)
+led me at m l (lead.Catch from slot) = reply (with_goal (with_leader m l) slot from) me (Fetch at) from
+led me at m l lead.Inherit = record { entry = None; memory = with_leader m l; sends = accept_out me at l }
+led me at m l lead.Ready = quiet (with_leader m l)
+
+abbrev pub led_by : ℕ → ℕ → Memory → LeaderState × LeadStep → Out
+led_by me at m x = led me at m x.0 x.1
 
 -- Promise.
 unfoldable pub on_promise : ℕ → AcceptorState → Memory → ℕ → ℕ → ℕ → Cast → Out
-on_promise me a m from ballot length vote = led_by me a None m (lead_promise m.leader from ballot length vote (reach a))
+on_promise me a m from ballot length vote = led_by me (reach a) m (lead_promise m.leader from ballot length vote (reach a))
 
 -- Accept.
 abbrev pub accepted : ℕ → Memory → ℕ → ℕ → ℕ → Value → AcceptStep → Out
@@ -115,6 +113,10 @@ accepted me m from ballot slot value accept.Voted = record {
 
 unfoldable pub on_accept : ℕ → AcceptorState → Memory → ℕ → ℕ → ℕ → Value → Out
 on_accept me a m from ballot slot value = accepted me m from ballot slot value (accept_step a ballot slot value)
+
+-- the slot is the next one, and there is room for it
+abbrev pub is_next : AcceptorState → ℕ → Bool
+is_next a slot = (slot == reach a) && nat_lt (reach a) most_slots
 
 -- Accepted. The third one chooses what was outstanding: it is learned and told.
 abbrev pub tallied_out : ℕ → Memory → ℕ → ℕ → Option Value → LeaderState → Counted → Out
@@ -132,8 +134,9 @@ tallied_by me m ballot slot out x = tallied_out me m ballot slot out x.0 x.1
 
 unfoldable pub on_accepted : ℕ → AcceptorState → Memory → ℕ → ℕ → ℕ → Out
 on_accepted me a m from ballot slot =
-    if nat_le most_slots (reach a) then quiet m
-    else tallied_by me m ballot slot (value_out m.leader.out) (lead_accepted m.leader from ballot slot)
+    if is_next a slot
+    then tallied_by me m ballot slot (value_out m.leader.out) (lead_accepted m.leader from ballot slot)
+    else quiet m
 
 -- Refuse: its candidacy or its lead is over.
 unfoldable pub on_refuse : Memory → ℕ → ℕ → Out
@@ -143,28 +146,27 @@ on_refuse m ballot promised =
     else quiet m
 
 -- the next slot is fetched from the guide where the log is short of the goal
-abbrev pub fetch_more : ℕ → ℕ → Entry → Memory → Out
-fetch_more me length e m = record {
-  entry = Some e;
-  memory = m;
-  sends = if nat_lt length m.goal then mail me (Fetch length) m.guide ∷ [] else [];
-}
+abbrev pub fetch_more : ℕ → ℕ → Memory → List Mail
+fetch_more me at m = if nat_lt at m.goal then mail me (Fetch at) m.guide ∷ [] else []
 
 -- Once a message brought the log to a length: where the promise is above its ballot, or it led, the replica steps
 -- down; where it is the length that it sought, it arrives; else it goes on.
-unfoldable pub once_learned : ℕ → AcceptorState → ℕ → ℕ → Entry → Memory → Out
-once_learned me a promise length e m =
+abbrev pub onwards : ℕ → ℕ → ℕ → Memory → LeaderState × List Mail
+onwards me promise at m =
     if is_leading m.leader.stage || nat_lt m.leader.ballot promise
-    then fetch_more me length e (down m)
-    else if is_catching m.leader.stage && (length == m.leader.sought)
-    then led_by me a (Some e) m (lead_reached m.leader)
-    else fetch_more me length e m
+    then (stepped_down m.leader, fetch_more me at m)
+    else if is_catching m.leader.stage && (at == m.leader.sought)
+    then ((lead_reached m.leader).0, accept_out me at (lead_reached m.leader).0)
+    else (m.leader, fetch_more me at m)
+
+abbrev pub once_learned : Entry → Memory → LeaderState × List Mail → Out
+once_learned e m x = record { entry = Some e; memory = with_leader m x.0; sends = x.1 }
 
 -- Chosen.
 abbrev pub learned : ℕ → AcceptorState → Memory → ℕ → ℕ → ℕ → Value → ChosenStep → Out
 learned me a m from slot ballot value chosen.Late = quiet m
 learned me a m from slot ballot value (chosen.Behind length) = reply (with_goal m slot from) me (Fetch length) from
-learned me a m from slot ballot value chosen.Learned = once_learned me a (max a.promise ballot) (slot + 1) (entry.Learn ballot value) m
+learned me a m from slot ballot value chosen.Learned = once_learned (entry.Learn ballot value) m (onwards me (max a.promise ballot) (slot + 1) m)
 
 unfoldable pub on_chosen : ℕ → AcceptorState → Memory → ℕ → ℕ → ℕ → Value → Out
 on_chosen me a m from slot ballot value = learned me a m from slot ballot value (chosen_step a slot)
