@@ -106,7 +106,7 @@ impl Acceptor {
         Ok(())
     }
 
-    /// A Prepare of this ballot.
+    /// A Prepare of this ballot. `Refuse` exactly below the promise, `Again` exactly at it; else the ballot is promised.
     pub fn on_prepare(&mut self, ballot: u64) -> PrepareStep
         ensures step { result ≡ prepare_step self.old.state ballot }
         ensures entry { self.new ≡ acted self.old.state (prepare_entry ballot result) }
@@ -121,7 +121,9 @@ impl Acceptor {
         step
     }
 
-    /// An Accept of the value at this ballot for this slot. Without memory nothing changed.
+    /// An Accept of the value at this ballot for this slot. The first that applies: `Refuse` below the promise; `Late`
+    /// where the slot has its value or the log is full; `Behind` where the slot is above the length; `Again` where the
+    /// same vote stands; else the value has the vote, and the ballot is promised. Without memory nothing changed.
     pub fn on_accept(
         &mut self,
         ballot: u64,
@@ -143,7 +145,8 @@ impl Acceptor {
         Ok(step)
     }
 
-    /// A Chosen of the value at this ballot for this slot. Without memory nothing changed.
+    /// A Chosen of the value at this ballot for this slot. `Late` and `Behind` by the same tests as for an Accept; else
+    /// the log has the value, no vote stands, and the ballot is promised. Without memory nothing changed.
     pub fn on_chosen(
         &mut self,
         slot: u64,
@@ -235,8 +238,8 @@ impl Acceptor {
         slot < self.length() || MOST_SLOTS <= self.length()
     }
 
-    /// What [`Acceptor::on_prepare`] answers to this. Nothing changes.
-    pub fn prepare_step(&self, ballot: u64) -> PrepareStep
+    /// What is answered to a Prepare.
+    fn prepare_step(&self, ballot: u64) -> PrepareStep
         ensures { result ≡ prepare_step self.now.state ballot }
     {
         match ballot.cmp(&self.promise) {
@@ -248,8 +251,8 @@ impl Acceptor {
         }
     }
 
-    /// What [`Acceptor::on_accept`] answers to this. Nothing changes.
-    pub fn accept_step(&self, ballot: u64, slot: u64, value: &Value) -> AcceptStep
+    /// What is answered to an Accept.
+    fn accept_step(&self, ballot: u64, slot: u64, value: &Value) -> AcceptStep
         ensures { result ≡ accept_step self.now.state ballot slot value.now }
     {
         if ballot < self.promise {
@@ -269,8 +272,8 @@ impl Acceptor {
         }
     }
 
-    /// What [`Acceptor::on_chosen`] answers to this. Nothing changes.
-    pub fn chosen_step(&self, slot: u64) -> ChosenStep
+    /// What is answered to a Chosen.
+    fn chosen_step(&self, slot: u64) -> ChosenStep
         ensures { result ≡ chosen_step self.now.state slot }
     {
         if self.is_late(slot) {

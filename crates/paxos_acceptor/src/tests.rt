@@ -43,10 +43,8 @@ fn what_is_learned_raises_the_promise(rt: HostRuntime) -> Result<(), Fail> {
 }
 
 #[test]
-fn promised_voted_and_learned(rt: HostRuntime) -> Result<(), Fail> {
+fn promised(rt: HostRuntime) -> Result<(), Fail> {
     let alloc = rt.alloc();
-    let v = value(RELEASE_1)?;
-    let w = value(RELEASE_2)?;
     let mut acceptor = Acceptor::new(alloc)?;
     assert_eq!(rt; acceptor.on_prepare(5), PrepareStep::Promise);
     assert_eq!(rt;
@@ -55,6 +53,16 @@ fn promised_voted_and_learned(rt: HostRuntime) -> Result<(), Fail> {
     );
     assert_eq!(rt; acceptor.on_prepare(5), PrepareStep::Again);
     assert!(rt; acceptor.durable_entry().is_none());
+    assert_eq!(rt; acceptor.on_prepare(4), PrepareStep::Refuse { promised: 5 });
+    Ok(())
+}
+
+#[test]
+fn voted(rt: HostRuntime) -> Result<(), Fail> {
+    let alloc = rt.alloc();
+    let v = value(RELEASE_1)?;
+    let mut acceptor = Acceptor::new(alloc)?;
+    assert_eq!(rt; acceptor.on_prepare(5), PrepareStep::Promise);
     assert_eq!(rt;
         acceptor.on_accept(4, 0, &v)?,
         AcceptStep::Refuse { promised: 5 }
@@ -63,15 +71,26 @@ fn promised_voted_and_learned(rt: HostRuntime) -> Result<(), Fail> {
         acceptor.on_accept(5, 1, &v)?,
         AcceptStep::Behind { length: 0 }
     );
-    assert_eq!(rt; acceptor.on_accept(5, 0, &v)?, AcceptStep::Voted);
-    assert!(rt; is_cast(acceptor.vote(), 5, RELEASE_1));
+    assert_eq!(rt; acceptor.on_accept(6, 0, &v)?, AcceptStep::Voted);
+    assert_eq!(rt; acceptor.promised(), 6);
+    assert!(rt; is_cast(acceptor.vote(), 6, RELEASE_1));
     assert_eq!(rt;
         durable(alloc, &acceptor)?.as_slice(),
-        b"\x03\0\0\0\0\0\0\0\x05\x01\x03\0\0\0\0\0\0\0\x01".as_slice()
+        b"\x03\0\0\0\0\0\0\0\x06\x01\x03\0\0\0\0\0\0\0\x01".as_slice()
     );
-    assert_eq!(rt; acceptor.on_accept(5, 0, &v)?, AcceptStep::Again);
-    assert_eq!(rt; acceptor.on_accept(6, 0, &w)?, AcceptStep::Voted);
-    assert!(rt; is_cast(acceptor.vote(), 6, RELEASE_2));
+    assert_eq!(rt; acceptor.on_accept(6, 0, &v)?, AcceptStep::Again);
+    Ok(())
+}
+
+#[test]
+fn learned(rt: HostRuntime) -> Result<(), Fail> {
+    let alloc = rt.alloc();
+    let w = value(RELEASE_2)?;
+    let mut acceptor = Acceptor::new(alloc)?;
+    assert_eq!(rt;
+        acceptor.on_accept(6, 0, &value(RELEASE_1)?)?,
+        AcceptStep::Voted
+    );
     assert_eq!(rt;
         acceptor.on_chosen(1, 6, &w)?,
         ChosenStep::Behind { length: 0 }
@@ -82,7 +101,6 @@ fn promised_voted_and_learned(rt: HostRuntime) -> Result<(), Fail> {
         b"\x04\0\0\0\0\0\0\0\x06\x01\x03\0\0\0\0\0\0\0\x02".as_slice()
     );
     assert!(rt; acceptor.vote().is_none());
-    assert_eq!(rt; acceptor.length(), 1);
     assert!(rt; is_cast(acceptor.entry(0), 6, RELEASE_2));
     assert!(rt; acceptor.entry(1).is_none());
     assert_eq!(rt; acceptor.on_chosen(0, 6, &w)?, ChosenStep::Late);

@@ -1,4 +1,5 @@
 use crate::{Counted, LeadStep, Leader, Stage};
+use std::alloc::Global;
 use std::test::Fail;
 use wire_core::Value;
 
@@ -39,31 +40,50 @@ fn ballots(rt: HostRuntime) -> Result<(), Fail> {
     Ok(())
 }
 
-// Replica 1 campaigns at ballot 6, and one of three tells a vote of ballot 5.
+/// A candidate at ballot 6 with three Promises, of which one told a vote of ballot 5.
+fn inheriting(alloc: Global, leader: &mut Leader) -> Result<LeadStep, Fail> {
+    let v = value(RELEASE_1)?;
+    *leader = Leader::new(alloc);
+    if leader.campaign(0, 1) != Some(6) {
+        return Err(Fail::from("no candidate"));
+    }
+    if leader.on_promise(0, 6, 0, 5, Some(&v), 0)? != LeadStep::More {
+        return Err(Fail::from("not counted"));
+    }
+    if leader.on_promise(1, 6, 0, 0, None, 0)? != LeadStep::More {
+        return Err(Fail::from("not counted"));
+    }
+    Ok(leader.on_promise(2, 6, 0, 0, None, 0)?)
+}
+
+// Replica 1 at ballot 6, to which one of three told a vote of ballot 5: its value is proposed again, and chosen by three.
 #[test]
 fn inherited_at_ballot_6(rt: HostRuntime) -> Result<(), Fail> {
-    let v = value(RELEASE_1)?;
     let mut leader = Leader::new(rt.alloc());
-    assert_eq!(rt; leader.campaign(0, 1), Some(6));
-    assert_eq!(rt; leader.on_promise(0, 6, 0, 5, Some(&v), 0)?, LeadStep::More);
-    assert_eq!(rt; leader.on_promise(0, 6, 0, 5, Some(&v), 0)?, LeadStep::Late);
-    assert_eq!(rt; leader.on_promise(1, 5, 0, 0, None, 0)?, LeadStep::Late);
-    assert_eq!(rt; leader.on_promise(1, 6, 0, 0, None, 0)?, LeadStep::More);
-    assert_eq!(rt; leader.on_promise(2, 6, 0, 0, None, 0)?, LeadStep::Inherit);
+    assert_eq!(rt; inheriting(rt.alloc(), &mut leader)?, LeadStep::Inherit);
     assert_eq!(rt; leader.stage(), Stage::Inheriting);
     assert!(rt; is_out(&leader, RELEASE_1));
-    assert!(rt; !leader.ready());
+    assert_eq!(rt; leader.on_accepted(0, 6, 0), Counted::More);
+    assert_eq!(rt; leader.on_accepted(1, 6, 0), Counted::More);
+    assert!(rt; leader.would_choose(2, 6, 0));
+    assert_eq!(rt; leader.on_accepted(2, 6, 0), Counted::Chosen);
+    assert!(rt; leader.ready());
+    assert!(rt; leader.is_idle());
+    Ok(())
+}
+
+#[test]
+fn what_is_not_counted(rt: HostRuntime) -> Result<(), Fail> {
+    let mut leader = Leader::new(rt.alloc());
+    assert_eq!(rt; leader.on_promise(0, 0, 0, 0, None, 0)?, LeadStep::Late);
+    assert_eq!(rt; inheriting(rt.alloc(), &mut leader)?, LeadStep::Inherit);
     assert_eq!(rt; leader.on_promise(3, 6, 0, 0, None, 0)?, LeadStep::Late);
     assert_eq!(rt; leader.on_accepted(0, 6, 0), Counted::More);
     assert_eq!(rt; leader.on_accepted(0, 6, 0), Counted::Late);
     assert_eq!(rt; leader.on_accepted(1, 6, 1), Counted::Late);
+    assert_eq!(rt; leader.on_accepted(1, 5, 0), Counted::Late);
     assert_eq!(rt; leader.on_accepted(1, 6, 0), Counted::More);
-    assert!(rt; leader.would_choose(2, 6, 0));
     assert!(rt; !leader.would_choose(1, 6, 0));
-    assert_eq!(rt; leader.on_accepted(2, 6, 0), Counted::Chosen);
-    assert!(rt; leader.ready());
-    assert!(rt; leader.is_idle());
-    assert_eq!(rt; leader.on_accepted(3, 6, 0), Counted::Late);
     Ok(())
 }
 
