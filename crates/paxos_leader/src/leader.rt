@@ -12,6 +12,9 @@ use std::marker::Model;
 use std::mem::replace;
 use wire_core::{NoMemory, OwnedValue, Value};
 
+/// Ballots go round: one for each of the five replicas.
+const BALLOTS_A_ROUND: u64 = 5;
+
 /// One replica on its way to lead. It keeps its allocator.
 #[derive(Debug, Drop)]
 pub struct Leader {
@@ -51,8 +54,10 @@ fn ballot_above(above: u64, index: u8) -> Option<u64>
     requires { index < 5 }
     ensures { result ≡ ballot_above above index }
 {
-    let round = above / 5 + 1;
-    round.checked_mul(5)?.checked_add(u64::from(index))
+    let round = above / BALLOTS_A_ROUND + 1;
+    round
+        .checked_mul(BALLOTS_A_ROUND)?
+        .checked_add(u64::from(index))
 }
 
 /// A copy of the value, where there is one.

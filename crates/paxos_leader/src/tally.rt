@@ -10,6 +10,9 @@ use std::alloc::Global;
 use std::marker::Model;
 use wire_core::{NoMemory, OwnedValue, Value};
 
+/// Greater than each replica's number.
+const NO_REPLICA: u8 = 5;
+
 /// What a candidate keeps of the Promises that it counted.
 #[derive(Debug, Drop)]
 pub struct Tally {
@@ -77,7 +80,7 @@ impl Tally {
         Tally {
             tellers: NOBODY,
             longest: 0,
-            source: 5,
+            source: NO_REPLICA,
             best: None,
         }
     }
