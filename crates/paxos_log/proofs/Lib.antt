@@ -9,3 +9,5 @@ pub mod Claims
 pub mod Logs
 pub mod Runs
 pub mod WorkedRuns
+pub mod Journaling
+pub mod Posting

@@ -15,7 +15,7 @@ use Rattle.paxos_spec.specs.Replica.{new_memory, mail, Out, quiet, on_message, o
 use Rattle.paxos_spec.specs.Agreement.{View, Disk, empty_disk, after, grown}
 use Rattle.paxos_log.specs.declared.event.PaxosEvent.{PaxosEvent}
 use Rattle.paxos_log.specs.declared.event.PaxosEvent.TheVariants.{Campaign, Offer, Deliver, Crash}
-use Rattle.paxos_log.specs.declared.event.Post.{Post}
+use Rattle.paxos_log.specs.declared.posts.Post.{Post}
 use Rattle.paxos_log.specs.Facts.{Proposed, BodyOk, MailOk, Inv}
 use Rattle.paxos_log.specs.Steps.{Moves, GoodOut, Here}
 use Rattle.paxos_log.specs.World.{Replica, World, new_replica, start, replica, with_entry, posted, apply, cut_short, on_mail, takes, delivered, waiting, reopens, cut_at, cut_while, whole_value, offered, happens, run, disk_of, view}

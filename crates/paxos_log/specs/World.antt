@@ -10,7 +10,7 @@ use Rattle.paxos_spec.specs.Replica.{Memory, new_memory, Out, quiet, on_message,
 use Rattle.paxos_spec.specs.Agreement.{Disk, empty_disk, after, View}
 use Rattle.paxos_log.specs.declared.event.PaxosEvent.{PaxosEvent}
 use Rattle.paxos_log.specs.declared.event.PaxosEvent.TheVariants.{Campaign, Offer, Deliver, Crash}
-use Rattle.paxos_log.specs.declared.event.Post.{Post}
+use Rattle.paxos_log.specs.declared.posts.Post.{Post}
 
 -- a replica: its entries, which it finds again when it opens, and its memory
 pub record Replica : Type 0 where

@@ -1,4 +1,3 @@
-use paxos_spec::Mail;
 use wire_core::ValueBytes;
 
 /// What may happen next to five replicas and their messages.
@@ -14,11 +13,4 @@ pub enum PaxosEvent {
     /// This replica goes down and opens again from its entries. Where the flag is set, it goes down while it handles the
     /// least message to it that was never delivered: the entry of that step is kept, and its messages are never sent.
     Crash(u8, bool),
-}
-
-/// A message that was sent, and whether it was ever delivered.
-#[derive(Debug, Drop)]
-pub struct Post {
-    pub mail: Mail,
-    pub taken: bool,
 }

@@ -12,8 +12,19 @@
 //! one replica, so that a world in which more happens takes it over step by step.
 #![tactic(auto)]
 
+mod candidacy;
+mod durable;
 mod event;
+mod journaled;
 mod laws;
+mod learning;
+mod mailing;
+mod posts;
+mod replica;
+mod voting;
+mod world;
 
-pub use event::{PaxosEvent, Post};
+pub use event::PaxosEvent;
 pub use laws::{agreement, each_step, lasting, order, worked_runs};
+pub use posts::Post;
+pub use world::PaxosWorld;
