@@ -6,6 +6,7 @@ ghost use Rattle.paxos_spec.specs.Votes.{vote_seen};
 
 use paxos_spec::{AcceptStep, Cast, ChosenStep, PrepareStep};
 use std::alloc::Global;
+use std::cmp::Ordering;
 use std::marker::Model;
 use wire_core::{Entry, NoMemory, OwnedValue, Value, is_same_value};
 
@@ -42,12 +43,10 @@ impl Model for Acceptor {
     ghost use Rattle.paxos_acceptor.specs.Seen.{entry_made};
     ghost use Rattle.paxos_spec.specs.Votes.{vote_seen};
 
-    ghost view = {
-        λ a. record {
-            state = record { promise = a.promise; vote = vote_seen a.vote; log = a.log.items };
-            entry = entry_made a.made a.promise a.vote a.log.items;
-        }
-    };
+    ghost view = { λ a. record {
+      state = record { promise = a.promise; vote = vote_seen a.vote; log = a.log.items };
+      entry = entry_made a.made a.promise a.vote a.log.items;
+    } };
 }
 
 /// The value with its ballot, in a copy.
@@ -107,28 +106,30 @@ impl Acceptor {
         Ok(())
     }
 
-    /// A Prepare of this ballot.
+    /// A Prepare of this ballot. `Refuse` exactly below the promise, `Again` exactly at it; else the ballot is promised.
     pub fn on_prepare(&mut self, ballot: u64) -> PrepareStep
         ensures step { result ≡ prepare_step self.old.state ballot }
         ensures entry { self.new ≡ acted self.old.state (prepare_entry ballot result) }
     {
-        if ballot < self.promise {
-            self.made = Made::Nothing;
-            PrepareStep::Refuse {
-                promised: self.promise,
-            }
-        } else if ballot == self.promise {
-            self.made = Made::Nothing;
-            PrepareStep::Again
-        } else {
+        let step = self.prepare_step(ballot);
+        if step == PrepareStep::Promise {
             self.promise = ballot;
             self.made = Made::Promise;
-            PrepareStep::Promise
+        } else {
+            self.made = Made::Nothing;
         }
+        step
     }
 
-    /// An Accept of the value at this ballot for this slot. Without memory nothing changed.
-    pub fn on_accept(&mut self, ballot: u64, slot: u64, value: &Value) -> Result<AcceptStep, NoMemory>
+    /// An Accept of the value at this ballot for this slot. The first that applies: `Refuse` below the promise; `Late`
+    /// where the slot has its value or the log is full; `Behind` where the slot is above the length; `Again` where the
+    /// same vote stands; else the value has the vote, and the ballot is promised. Without memory nothing changed.
+    pub fn on_accept(
+        &mut self,
+        ballot: u64,
+        slot: u64,
+        value: &Value,
+    ) -> Result<AcceptStep, NoMemory>
         ensures step { IfOk result (λ step. step ≡ accept_step self.old.state ballot slot value.now) }
         ensures entry { IfOk result (λ step. self.new ≡ acted self.old.state (accept_entry ballot value.now step)) }
         ensures err { OnErr result (self.new ≡ self.old) }
@@ -136,7 +137,7 @@ impl Acceptor {
         let step = self.accept_step(ballot, slot, value);
         if step == AcceptStep::Voted {
             self.vote = Some(cast(self.alloc, ballot, value)?);
-            self.promise = self.promise.max(ballot);
+            self.promise = ballot;
             self.made = Made::Vote;
         } else {
             self.made = Made::Nothing;
@@ -144,8 +145,14 @@ impl Acceptor {
         Ok(step)
     }
 
-    /// A Chosen of the value at this ballot for this slot. Without memory nothing changed.
-    pub fn on_chosen(&mut self, slot: u64, ballot: u64, value: &Value) -> Result<ChosenStep, NoMemory>
+    /// A Chosen of the value at this ballot for this slot. `Late` and `Behind` by the same tests as for an Accept; else
+    /// the log has the value, no vote stands, and the ballot is promised. Without memory nothing changed.
+    pub fn on_chosen(
+        &mut self,
+        slot: u64,
+        ballot: u64,
+        value: &Value,
+    ) -> Result<ChosenStep, NoMemory>
         ensures step { IfOk result (λ step. step ≡ chosen_step self.old.state slot) }
         ensures entry { IfOk result (λ step. self.new ≡ acted self.old.state (chosen_entry ballot value.now step)) }
         ensures err { OnErr result (self.new ≡ self.old) }
@@ -229,6 +236,19 @@ impl Acceptor {
         ensures { result ≡ is_late self.now.state slot }
     {
         slot < self.length() || MOST_SLOTS <= self.length()
+    }
+
+    /// What is answered to a Prepare.
+    fn prepare_step(&self, ballot: u64) -> PrepareStep
+        ensures { result ≡ prepare_step self.now.state ballot }
+    {
+        match ballot.cmp(&self.promise) {
+            Ordering::Less => PrepareStep::Refuse {
+                promised: self.promise,
+            },
+            Ordering::Equal => PrepareStep::Again,
+            Ordering::Greater => PrepareStep::Promise,
+        }
     }
 
     /// What is answered to an Accept.

@@ -20,3 +20,6 @@ mod acceptor;
 
 pub use acceptor::Acceptor;
 pub use paxos_spec::{AcceptStep, Cast, ChosenStep, PrepareStep};
+
+#[cfg(test)]
+mod tests;

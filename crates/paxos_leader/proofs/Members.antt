@@ -1,5 +1,5 @@
 -- How many of the five, as the library counts.
-use Rattle.std.proofs.Common.{◌≡◌, ◌∷◌, Bool, true, false, List, ℕ, refl, sym, cond, ◌+◌, add_comm}
+use Rattle.std.proofs.Common.{◌≡◌, ◌∷◌, Bool, true, false, List, refl, sym, cond, ◌+◌, add_comm}
 use Rattle.std.specs.List.{count_by}
 use Rattle.std.proofs.lemmas.List.Recursion.{is_count_by}
 use Rattle.paxos_spec.specs.Five.{how_many}

@@ -12,6 +12,9 @@ use std::marker::Model;
 use std::mem::replace;
 use wire_core::{NoMemory, OwnedValue, Value};
 
+/// Ballots go round: one for each of the five replicas.
+const BALLOTS_A_ROUND: u64 = 5;
+
 /// One replica on its way to lead. It keeps its allocator.
 #[derive(Debug, Drop)]
 pub struct Leader {
@@ -35,17 +38,15 @@ impl Model for Leader {
 
     ghost Value = { LeaderState };
 
-    ghost view = {
-        λ l. record {
-            stage = l.stage;
-            ballot = l.ballot;
-            tally = l.tally;
-            sought = l.sought;
-            pending = l.pending;
-            out = l.out;
-            counted = l.counted;
-        }
-    };
+    ghost view = { λ l. record {
+      stage = l.stage;
+      ballot = l.ballot;
+      tally = l.tally;
+      sought = l.sought;
+      pending = l.pending;
+      out = l.out;
+      counted = l.counted;
+    } };
 }
 
 /// The ballot of a new candidate: its own, and above this one. `None` exactly where it exceeds 64 bits.
@@ -53,8 +54,10 @@ fn ballot_above(above: u64, index: u8) -> Option<u64>
     requires { index < 5 }
     ensures { result ≡ ballot_above above index }
 {
-    let round = above / 5 + 1;
-    round.checked_mul(5)?.checked_add(u64::from(index))
+    let round = above / BALLOTS_A_ROUND + 1;
+    round
+        .checked_mul(BALLOTS_A_ROUND)?
+        .checked_add(u64::from(index))
 }
 
 /// A copy of the value, where there is one.
@@ -68,7 +71,10 @@ fn copy_of_value(alloc: Global, value: &Option<OwnedValue>) -> Result<Option<Own
 }
 
 /// A copy of the proposal, where there is one.
-fn copy_of_proposal(alloc: Global, proposal: &Option<Proposal>) -> Result<Option<Proposal>, NoMemory>
+fn copy_of_proposal(
+    alloc: Global,
+    proposal: &Option<Proposal>,
+) -> Result<Option<Proposal>, NoMemory>
     ensures { IfOk result (λ copy. copy ≡ proposal.now) }
 {
     match proposal {
@@ -173,7 +179,15 @@ impl Leader {
     /// `vote` for this value; without a value, or at ballot 0, it has none. `own` is the length of the own log. `Late`
     /// exactly where the stage isn't Candidate, the ballot isn't the candidacy's, or this replica's was counted; then
     /// nothing changed. Without memory nothing changed.
-    pub fn on_promise(&mut self, from: u8, ballot: u64, length: u64, vote: u64, value: Option<&Value>, own: u64) -> Result<LeadStep, NoMemory>
+    pub fn on_promise(
+        &mut self,
+        from: u8,
+        ballot: u64,
+        length: u64,
+        vote: u64,
+        value: Option<&Value>,
+        own: u64,
+    ) -> Result<LeadStep, NoMemory>
         requires { from < 5 }
         ensures ok { IfOk result (λ step. (self.new, step) ≡ lead_promise self.old from ballot length (cast vote (option_copied value.entry)) own) }
         ensures err { OnErr result (self.new ≡ self.old) }
@@ -183,7 +197,7 @@ impl Leader {
         }
         self.tally.tell(self.alloc, from, length, vote, value)?;
         if self.tally.is_complete() {
-            Ok(self.judge(own))
+            Ok(self.third_promise(own))
         } else {
             Ok(LeadStep::More)
         }
@@ -292,8 +306,8 @@ impl Leader {
         }
     }
 
-    /// What three Promises come to.
-    fn judge(&mut self, own: u64) -> LeadStep
+    /// What the third Promise comes to, with a log of this length.
+    fn third_promise(&mut self, own: u64) -> LeadStep
         ensures { (self.new, result) ≡ third_promise self.old self.old.tally own }
     {
         let tally = replace(&mut self.tally, Tally::new());

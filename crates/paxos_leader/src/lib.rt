@@ -30,3 +30,6 @@ mod tally;
 
 pub use leader::Leader;
 pub use paxos_spec::{Counted, LeadStep, Proposal, Stage};
+
+#[cfg(test)]
+mod tests;

@@ -10,6 +10,9 @@ use std::alloc::Global;
 use std::marker::Model;
 use wire_core::{NoMemory, OwnedValue, Value};
 
+/// Greater than each replica's number.
+const NO_REPLICA: u8 = 5;
+
 /// What a candidate keeps of the Promises that it counted.
 #[derive(Debug, Drop)]
 pub struct Tally {
@@ -77,7 +80,7 @@ impl Tally {
         Tally {
             tellers: NOBODY,
             longest: 0,
-            source: 5,
+            source: NO_REPLICA,
             best: None,
         }
     }
@@ -113,7 +116,14 @@ impl Tally {
 
     /// Counts a Promise: the replica has a log of this length, and this vote for the slot at its end, or none where no
     /// ballot above 0 and value are given. Without memory nothing changed.
-    pub fn tell(&mut self, alloc: Global, from: u8, length: u64, vote: u64, value: Option<&Value>) -> Result<(), NoMemory>
+    pub fn tell(
+        &mut self,
+        alloc: Global,
+        from: u8,
+        length: u64,
+        vote: u64,
+        value: Option<&Value>,
+    ) -> Result<(), NoMemory>
         requires { from < 5 }
         ensures ok { OnOk result (self.new ≡ tallied self.old from length (cast vote (option_copied value.entry))) }
         ensures err { OnErr result (self.new ≡ self.old) }
