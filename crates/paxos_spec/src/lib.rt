@@ -10,7 +10,7 @@
 //! | chosen, learned, and what is claimed of them | `Agreement` |
 //!
 //! The crates above bind code to these words: an acceptor's calls to `Acceptor`, a leader's to `Leader`, and a world of
-//! five replicas to `Replica`. That the claims of `Agreement` hold, whatever happens, is proved there too.
+//! five replicas to `Replica`. That the claims of `Agreement` hold, whatever happens, is proved in `paxos_log`.
 #![tactic(auto)]
 
 mod cast;
