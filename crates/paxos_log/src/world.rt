@@ -1,0 +1,217 @@
+ghost use Rattle.std.specs.Prelude.{◌≡◌, ◌<◌, IfOk, OnErr, OnOk, length, option_map, slice_get};
+ghost use Rattle.paxos_acceptor.specs.Seen.{pair_of};
+ghost use Rattle.paxos_log.specs.World.{cut_at, cut_while, delivered, falls, handles, happens, reopens, replica, start, waiting};
+ghost use Rattle.paxos_log.specs.declared.event.PaxosEvent.TheVariants.{Campaign, Offer};
+ghost use Rattle.paxos_spec.specs.Acceptor.{state_of};
+
+use crate::event::PaxosEvent;
+use crate::posts::{Post, copy_of_mail, take, waiting};
+use crate::replica::Replica;
+use paxos_spec::Mail;
+use std::alloc::Global;
+use std::marker::Model;
+use wire_core::{NoMemory, Value};
+
+/// Five replicas of one log, and every message that was ever sent between them.
+#[derive(Debug, Drop)]
+pub struct PaxosWorld {
+    alloc: Global,
+    replicas: [Replica; 5],
+    posts: Vec<Post>,
+}
+
+impl Model for PaxosWorld {
+    ghost use Rattle.paxos_log.specs.World.{World};
+
+    ghost Value = { World };
+
+    ghost view = { λ w. record { replicas = w.replicas; posts = w.posts.items } };
+}
+
+impl PaxosWorld {
+    /// Five replicas that have done nothing.
+    pub fn new(alloc: Global) -> Result<PaxosWorld, NoMemory>
+        ensures { IfOk result (λ world. world ≡ start) }
+    {
+        Ok(PaxosWorld {
+            alloc,
+            replicas: [
+                Replica::new(alloc)?,
+                Replica::new(alloc)?,
+                Replica::new(alloc)?,
+                Replica::new(alloc)?,
+                Replica::new(alloc)?,
+            ],
+            posts: Vec::new(alloc),
+        })
+    }
+
+    /// The ballot and value that this replica, from 0 to 4, learned at this slot. `None` exactly from its log's length on.
+    pub fn learned(&self, i: u8, slot: u64) -> Option<(u64, Value<'_>)>
+        requires { i < 5 }
+        ensures { result ≡ option_map pair_of (slice_get (state_of (replica self.now i).entries).log slot) }
+    {
+        self.replicas[usize::from(i)].learned(slot)
+    }
+
+    /// Every message that was ever sent, from the first on.
+    pub fn posts(&self) -> &[Post]
+        ensures { result.now ≡ self.now.posts }
+    {
+        self.posts.as_slice()
+    }
+
+    /// The event happens. One that names no replica, no message or no value changes nothing. Without memory nothing
+    /// changed. A crash costs a step for each entry of the replica, and a look at each message; the others cost the same
+    /// however long the world has run.
+    pub fn step(&mut self, e: &PaxosEvent) -> Result<(), NoMemory>
+        ensures ok { OnOk result (self.new ≡ happens self.old e.now) }
+        ensures err { OnErr result (self.new ≡ self.old) }
+    {
+        match e {
+            PaxosEvent::Campaign(i) => {
+                if *i < 5 {
+                    self.campaign(*i)?;
+                }
+            }
+            PaxosEvent::Offer(i, bytes) => {
+                if *i < 5 {
+                    self.offer(*i, bytes.as_slice())?;
+                }
+            }
+            PaxosEvent::Deliver(number) => {
+                if *number > 0 {
+                    self.deliver(*number - 1)?;
+                }
+            }
+            PaxosEvent::Crash(i, false) => {
+                if *i < 5 {
+                    self.reopen(*i)?;
+                }
+            }
+            PaxosEvent::Crash(i, true) => {
+                if *i < 5 {
+                    self.cut_short(*i)?;
+                }
+            }
+        }
+        Ok(())
+    }
+
+    #[tactic(auto, unfolding(crate::specs::World::apply))]
+    fn campaign(&mut self, i: u8) -> Result<(), NoMemory>
+        requires { i < 5 }
+        ensures ok { OnOk result (self.new ≡ happens self.old (Campaign i)) }
+        ensures err { OnErr result (self.new ≡ self.old) }
+    {
+        self.replicas[usize::from(i)].campaign(self.alloc, i, &mut self.posts)
+    }
+
+    #[tactic(auto, unfolding(crate::specs::World::apply))]
+    fn offer(&mut self, i: u8, bytes: &[u8]) -> Result<(), NoMemory>
+        requires { i < 5 }
+        ensures ok { OnOk result (self.new ≡ happens self.old (Offer i bytes.now)) }
+        ensures err { OnErr result (self.new ≡ self.old) }
+    {
+        match Value::read(bytes) {
+            Err(_) => Ok(()),
+            Ok((value, len)) => {
+                if len == bytes.len() {
+                    self.replicas[usize::from(i)].offer(self.alloc, i, &value, &mut self.posts)
+                } else {
+                    Ok(())
+                }
+            }
+        }
+    }
+
+    /// The replica goes down and opens again.
+    #[tactic(auto, unfolding(crate::specs::World::apply))]
+    fn reopen(&mut self, i: u8) -> Result<(), NoMemory>
+        requires { i < 5 }
+        ensures ok { OnOk result (self.new ≡ reopens self.old i) }
+        ensures err { OnErr result (self.new ≡ self.old) }
+    {
+        let mut replica = self.replicas[usize::from(i)].copy(self.alloc)?;
+        replica.forget(self.alloc);
+        self.replicas[usize::from(i)] = replica;
+        Ok(())
+    }
+
+    /// The replica handles the message of this place.
+    #[tactic(auto, using(crate::proofs::Posting::set_front), unfolding(crate::specs::World::apply))]
+    fn handle(&mut self, at: usize, i: u8, mail: Mail) -> Result<(), NoMemory>
+        requires place { at < length self.old.posts }
+        requires replica { i < 5 }
+        ensures ok { OnOk result (self.new ≡ handles self.old at i mail) }
+        ensures err { OnErr result (self.new ≡ self.old) }
+    {
+        self.replicas[usize::from(i)].on_mail(self.alloc, i, &mail, &mut self.posts)?;
+        take(&mut self.posts, at, mail);
+        Ok(())
+    }
+
+    /// The message of this place arrives, if there is one.
+    fn deliver(&mut self, at: u64) -> Result<(), NoMemory>
+        ensures ok { OnOk result (self.new ≡ delivered self.old at (slice_get self.old.posts at)) }
+        ensures err { OnErr result (self.new ≡ self.old) }
+    {
+        let at = at as usize;
+        match self.posts.get(at) {
+            None => Ok(()),
+            Some(post) => {
+                let target = post.mail.target;
+                if target >= 5 {
+                    return Ok(());
+                }
+                let mail = copy_of_mail(self.alloc, &post.mail)?;
+                self.handle(at, target, mail)
+            }
+        }
+    }
+
+    /// The replica goes down while it handles the message of this place: the step is taken on a copy, of which the
+    /// entries stay.
+    #[tactic(auto, using(crate::proofs::Posting::none_added), unfolding(crate::specs::World::apply))]
+    fn fall(&mut self, at: usize, i: u8, mail: Mail) -> Result<(), NoMemory>
+        requires place { at < length self.old.posts }
+        requires replica { i < 5 }
+        ensures ok { OnOk result (self.new ≡ falls self.old at i mail) }
+        ensures err { OnErr result (self.new ≡ self.old) }
+    {
+        let mut replica = self.replicas[usize::from(i)].copy(self.alloc)?;
+        let mut unsent = Vec::new(self.alloc);
+        replica.on_mail(self.alloc, i, &mail, &mut unsent)?;
+        replica.forget(self.alloc);
+        take(&mut self.posts, at, mail);
+        self.replicas[usize::from(i)] = replica;
+        Ok(())
+    }
+
+    /// The same, if there is such a message.
+    fn cut_at(&mut self, i: u8, at: usize) -> Result<(), NoMemory>
+        requires { i < 5 }
+        ensures ok { OnOk result (self.new ≡ cut_at self.old i at (slice_get self.old.posts at)) }
+        ensures err { OnErr result (self.new ≡ self.old) }
+    {
+        match self.posts.get(at) {
+            None => self.reopen(i),
+            Some(post) => {
+                let mail = copy_of_mail(self.alloc, &post.mail)?;
+                self.fall(at, i, mail)
+            }
+        }
+    }
+
+    /// The replica goes down while it handles the least message to it that was never delivered, if there is one.
+    fn cut_short(&mut self, i: u8) -> Result<(), NoMemory>
+        requires { i < 5 }
+        ensures ok { OnOk result (self.new ≡ cut_while self.old i (waiting i self.old.posts)) }
+        ensures err { OnErr result (self.new ≡ self.old) }
+    {
+        match waiting(&self.posts, i) {
+            None => self.reopen(i),
+            Some(at) => self.cut_at(i, at),
+        }
+    }
+}

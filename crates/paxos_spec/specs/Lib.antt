@@ -1,0 +1,6 @@
+pub mod Votes
+pub mod Five
+pub mod Acceptor
+pub mod Leader
+pub mod Replica
+pub mod Agreement
