@@ -1,8 +1,8 @@
 use crate::{Config, Counts, Who};
 use config_text::ConfigFault;
-use std::alloc::Global;
+use std::alloc::{AllocError, Global};
 use std::test::Fail;
-use wire_core::{Ip4, NodeId, Range, Socket};
+use wire_core::{Ip4, LeaseRules, MachineRule, NodeId, Range, Socket};
 
 /// One mux, one agent with one machine, and one VIP.
 const SMALL: &str =
@@ -24,105 +24,168 @@ fn socket(ip: u32, port: u16) -> Socket {
     Socket { ip: Ip4(ip), port }
 }
 
-fn read(alloc: Global, text: &str) -> Result<Config, Fail> {
+fn read(alloc: Global, text: &str) -> Result<Config, AllocError> {
     match Config::read(alloc, text.as_bytes()) {
         Ok(config) => Ok(config),
-        Err(_) => Err(Fail::from("refused")),
+        Err(_) => Err(AllocError),
     }
+}
+
+fn owners(config: &Config) -> [Who; 7] {
+    [
+        config.who(&socket(0x0a07_0001, 7000)),
+        config.who(&socket(0x0a00_0001, 7000)),
+        config.who(&socket(0x0a00_0005, 7000)),
+        config.who(&socket(0x0a09_0001, 7000)),
+        config.who(&socket(0x0a08_0001, 7000)),
+        config.who(&socket(0x0a01_0004, 9000)),
+        config.who(&socket(0x0a01_0004, 7000)),
+    ]
+}
+
+fn sockets(config: &Config) -> [Option<Socket>; 6] {
+    [
+        config.socket(&NodeId::Replica(4)),
+        config.socket(&NodeId::Replica(5)),
+        config.socket(&NodeId::Mux(1)),
+        config.socket(&NodeId::Mux(2)),
+        config.socket(&NodeId::Agent(1)),
+        config.socket(&NodeId::Agent(2)),
+    ]
+}
+
+fn agents(config: &Config) -> [Option<u16>; 3] {
+    [
+        config.agent_of(MACHINE),
+        config.agent_of(Ip4(0x0a01_0005)),
+        config.agent_of(VIP),
+    ]
 }
 
 #[test]
 fn the_small_configuration(rt: HostRuntime) -> Result<(), Fail> {
     let config = read(rt.alloc(), SMALL)?;
-    let counts = Counts {
-        muxes: 1,
-        agents: 1,
-        machines: 1,
-        vips: 1,
-    };
-    assert_eq!(rt; config.counts(), counts);
-    assert_eq!(rt; config.ranges(rt.alloc())?, 8064);
-    for (ip, port, who) in [
-        (0x0a07_0001, 7000, Who::Outside),
-        (0x0a00_0001, 7000, Who::Replica(0)),
-        (0x0a00_0005, 7000, Who::Replica(4)),
-        (0x0a09_0001, 7000, Who::Mux(0)),
-        (0x0a08_0001, 7000, Who::Agent(0)),
-        (0x0a01_0004, 9000, Who::Machine(MACHINE)),
-        (0x0a01_0004, 7000, Who::Outside),
-        (0xc000_020a, 7000, Who::Outside),
-    ] {
-        assert_eq!(rt; config.who(&socket(ip, port)), who);
-    }
+    let counts = config.counts();
+    let owners = owners(&config);
+    let ranges = config.ranges(rt.alloc())?;
+    drop(config);
+    assert_eq!(rt;
+        counts,
+        Counts {
+            muxes: 1,
+            agents: 1,
+            machines: 1,
+            vips: 1
+        }
+    );
+    assert_eq!(rt; ranges, 8064);
+    assert_eq!(rt;
+        owners,
+        [
+            Who::Outside,
+            Who::Replica(0),
+            Who::Replica(4),
+            Who::Mux(0),
+            Who::Agent(0),
+            Who::Machine(MACHINE),
+            Who::Outside
+        ]
+    );
     Ok(())
+}
+
+/// A copy of the configuration with two muxes.
+fn two(alloc: Global) -> Result<Config, AllocError> {
+    let config = read(alloc, TWO)?;
+    config.copy(alloc)
 }
 
 #[test]
 fn nodes_and_machines(rt: HostRuntime) -> Result<(), Fail> {
-    let config = read(rt.alloc(), TWO)?.copy(rt.alloc())?;
+    let config = two(rt.alloc())?;
+    let sockets = sockets(&config);
+    let agents = agents(&config);
+    drop(config);
     assert_eq!(rt;
-        config.socket(&NodeId::Replica(4)),
-        Some(socket(0x0a00_0005, 7000))
+        sockets,
+        [
+            Some(socket(0x0a00_0005, 7000)),
+            None,
+            Some(socket(0x0a09_0002, 7000)),
+            None,
+            Some(socket(0x0a08_0002, 7000)),
+            None
+        ]
     );
-    assert_eq!(rt; config.socket(&NodeId::Replica(5)), None);
-    assert_eq!(rt;
-        config.socket(&NodeId::Mux(1)),
-        Some(socket(0x0a09_0002, 7000))
-    );
-    assert_eq!(rt; config.socket(&NodeId::Mux(2)), None);
-    assert_eq!(rt;
-        config.socket(&NodeId::Agent(1)),
-        Some(socket(0x0a08_0002, 7000))
-    );
-    assert_eq!(rt; config.socket(&NodeId::Agent(2)), None);
-    assert_eq!(rt; config.agent_of(MACHINE), Some(0));
-    assert_eq!(rt; config.agent_of(Ip4(0x0a01_0005)), Some(1));
-    assert_eq!(rt; config.agent_of(VIP), None);
-    assert_eq!(rt;
-        config.who(&socket(0x0a01_0005, 9000)),
-        Who::Machine(Ip4(0x0a01_0005))
-    );
-    assert_eq!(rt; config.ranges(rt.alloc())?, 8);
+    assert_eq!(rt; agents, [Some(0), Some(1), None]);
     Ok(())
+}
+
+fn rules(alloc: Global) -> Result<LeaseRules, AllocError> {
+    let config = read(alloc, SERVED)?;
+    config.lease_rules(alloc)
+}
+
+/// The rule of the one machine that there is.
+fn only_machine(rules: &LeaseRules) -> Option<MachineRule> {
+    match rules.machines.as_slice() {
+        [rule] => Some(*rule),
+        _ => None,
+    }
 }
 
 #[test]
 fn an_endpoint_takes_its_range(rt: HostRuntime) -> Result<(), Fail> {
-    let config = read(rt.alloc(), SERVED)?;
-    let rules = config.lease_rules(rt.alloc())?;
-    assert_eq!(rt; rules.count(VIP), 8063);
-    assert_eq!(rt;
+    let rules = rules(rt.alloc())?;
+    let count = rules.count(VIP);
+    let leasable = [
         rules.leasable(&Range {
             vip: VIP,
-            start: 1024
+            start: 1024,
         }),
-        false
-    );
-    assert_eq!(rt;
         rules.leasable(&Range {
             vip: VIP,
-            start: 1032
+            start: 1032,
         }),
-        true
+    ];
+    let machine = only_machine(&rules);
+    drop(rules);
+    assert_eq!(rt; count, 8063);
+    assert_eq!(rt; leasable, [false, true]);
+    assert_eq!(rt;
+        machine,
+        Some(MachineRule {
+            machine: MACHINE,
+            agent: 0,
+            vip: VIP
+        })
     );
-    match rules.machines.as_slice() {
-        [rule] => {
-            assert_eq!(rt; rule.machine, MACHINE);
-            assert_eq!(rt; rule.agent, 0);
-            assert_eq!(rt; rule.vip, VIP);
-        }
-        _ => return Err(Fail::from("another count of machines")),
-    }
-    assert_eq!(rt; rules.limit, 16);
     Ok(())
+}
+
+/// The small configuration with the first of this text replaced.
+fn with(alloc: Global, old: &str, new: &str) -> Result<String, AllocError> {
+    match SMALL.split_once(old) {
+        Some((front, rest)) => format!(in alloc; "{front}{new}{rest}"),
+        None => Ok(String::new(alloc)),
+    }
+}
+
+/// The path of the member that breaks a rule; empty where none does.
+fn path_of(alloc: Global, text: &[u8]) -> Result<String, AllocError> {
+    match Config::read(alloc, text) {
+        Ok(_) => Ok(String::new(alloc)),
+        Err(ConfigFault::Field(path)) => Ok(path),
+        Err(_) => Err(AllocError),
+    }
 }
 
 #[test]
 fn the_first_rule_that_is_broken(rt: HostRuntime) -> Result<(), Fail> {
     for (old, new, path) in [
-        ("\"10.9.0.1:7000\"", "\"10.0.0.3:7000\"", "muxes[0]"),
-        ("\"10.0.0.2:7000\"", "\"10.7.0.1:7000\"", "replicas[1]"),
-        ("\"192.0.2.10\"", "\"10.1.0.4\"", "vips[0].address"),
+        ("10.9.0.1:7000", "10.0.0.3:7000", "muxes[0]"),
+        ("10.0.0.2:7000", "10.7.0.1:7000", "replicas[1]"),
+        ("192.0.2.10", "10.1.0.4", "vips[0].address"),
         ("1024", "1025", "vips[0].low"),
         ("65535", "1024", "vips[0].high"),
         (
@@ -136,11 +199,9 @@ fn the_first_rule_that_is_broken(rt: HostRuntime) -> Result<(), Fail> {
             "vips[0].snat[1]",
         ),
     ] {
-        let text = SMALL.replace(rt.alloc(), old, new)?;
-        match Config::read(rt.alloc(), text.as_bytes()) {
-            Err(ConfigFault::Field(found)) => assert_eq!(rt; found.as_str(), path),
-            _ => return Err(Fail::from("taken")),
-        }
+        let text = with(rt.alloc(), old, new)?;
+        let found = path_of(rt.alloc(), text.as_bytes())?;
+        assert_eq!(rt; found.as_str(), path);
     }
     Ok(())
 }
