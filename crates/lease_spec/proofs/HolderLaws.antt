@@ -136,6 +136,7 @@ row_at-others gone (x ∷ xs) n = by (x.n == gone) refl (row_at-others gone xs n
   where
     rest : Option Row
     rest = row_at xs n
+
     by : (a : Bool) → (x.n == gone) ≡ a → row_at (others gone xs) n ≡ cond (n == gone) none_row rest
         → row_at (cond (not a) (x ∷ others gone xs) (others gone xs)) n ≡ cond (n == gone) none_row (cond (x.n == n) (Some x) rest)
     by true is h = h ∙ at (n == gone) refl
