@@ -34,3 +34,6 @@ mod table;
 
 pub use lease_spec::{Effect, EffectList, Outcome, Phase, Row};
 pub use table::Table;
+
+#[cfg(test)]
+mod tests;
