@@ -8,3 +8,4 @@ pub mod Views
 pub mod Entries
 pub mod Spelling
 pub mod Same
+pub mod Steps
