@@ -8,3 +8,5 @@ pub mod EntryLaws
 pub mod OwnedLaws
 pub mod SameLaws
 pub mod LeasableLaws
+pub mod LengthLaws
+pub mod BuildingLaws

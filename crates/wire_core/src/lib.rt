@@ -18,6 +18,7 @@
 
 mod act;
 mod address;
+mod builder;
 mod cause;
 mod command;
 mod connection;
@@ -44,6 +45,7 @@ mod writing;
 
 pub use act::{Act, ActList, PacketBytes};
 pub use address::{Ip4, Socket};
+pub use builder::ValueBuilder;
 pub use cause::DropCause;
 pub use command::{Command, MuxBoot};
 pub use connection::Conn;
