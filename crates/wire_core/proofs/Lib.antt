@@ -6,3 +6,7 @@ pub mod AgainLaws
 pub mod WalkLaws
 pub mod EntryLaws
 pub mod OwnedLaws
+pub mod SameLaws
+pub mod LeasableLaws
+pub mod LengthLaws
+pub mod BuildingLaws

@@ -9,3 +9,4 @@ pub mod Entries
 pub mod Spelling
 pub mod Same
 pub mod Steps
+pub mod Building

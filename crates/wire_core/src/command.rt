@@ -1,4 +1,4 @@
-ghost use Rattle.std.specs.Prelude.{◌≡◌, ◌++◌, ◌+◌, ◌%◌, ◌≤◌, OnOk, OnErr, length, vec_len, vec_capacity};
+ghost use Rattle.std.specs.Prelude.{◌≡◌, ◌++◌, ◌+◌, ◌%◌, ◌≤◌, OnOk, OnErr, IsOk, length, vec_len, vec_capacity};
 ghost use Rattle.wire_core.specs.Commands.{Granted, command_bytes};
 ghost use Rattle.wire_core.specs.Views.{IsWritable, command_of, pairs_of};
 
@@ -58,11 +58,13 @@ fn put_granted(out: &mut Vec<u8>, n: u64, pairs: &[u8])
 }
 
 impl<'a> Command<'a> {
-    /// Appends the command's one spelling, at most 170 bytes. Without memory `out` stays as it was.
+    /// Appends the command's one spelling, at most 170 bytes. It takes memory only where
+    /// `out` has no room for them, and without memory `out` stays as it was.
     pub fn write(&self, out: &mut Vec<u8>) -> Result<(), NoMemory>
         requires { IsWritable self.now }
         ensures ok { OnOk result (out.new.items ≡ out.old.items ++ command_bytes (command_of self.now)) }
         ensures err { OnErr result (out.new.items ≡ out.old.items) }
+        ensures room { vec_len out.old + length (command_bytes (command_of self.now)) ≤ vec_capacity out.old → IsOk result }
     {
         match *self {
             Command::Reserve {

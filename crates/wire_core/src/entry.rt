@@ -1,4 +1,4 @@
-ghost use Rattle.std.specs.Prelude.{◌≡◌, [], ◌∷◌, ◌++◌, OnOk, OnErr};
+ghost use Rattle.std.specs.Prelude.{◌≡◌, ◌+◌, ◌≤◌, [], ◌∷◌, ◌++◌, OnOk, OnErr, IsOk, length, vec_len, vec_capacity};
 ghost use Rattle.wire_core.specs.Commands.{value_bytes};
 ghost use Rattle.wire_core.specs.Entries.{boot_at, entry_at, entry_bytes, read_entry};
 ghost use Rattle.wire_core.specs.Numbers.{number_bytes};
@@ -99,6 +99,7 @@ fn take_entry(bytes: &[u8]) -> Result<(Entry<'_>, &[u8]), FieldFault>
 fn write_number(out: &mut Vec<u8>, kind: u8, number: u64) -> Result<(), NoMemory>
     ensures ok { OnOk result (out.new.items ≡ out.old.items ++ (kind ∷ [] ++ number_bytes 8 number)) }
     ensures err { OnErr result (out.new.items ≡ out.old.items) }
+    ensures room { vec_len out.old + 9 ≤ vec_capacity out.old → IsOk result }
 {
     out.reserve(9)?;
     put_u8(out, kind);
@@ -108,8 +109,10 @@ fn write_number(out: &mut Vec<u8>, kind: u8, number: u64) -> Result<(), NoMemory
 
 /// Appends a kind byte, a ballot and a value.
 fn write_value(out: &mut Vec<u8>, kind: u8, ballot: u64, value: &Value) -> Result<(), NoMemory>
-    ensures ok { OnOk result (out.new.items ≡ out.old.items ++ (kind ∷ [] ++ number_bytes 8 ballot ++ value_bytes value.now)) }
+    ensures ok { OnOk result (out.new.items
+        ≡ out.old.items ++ (kind ∷ [] ++ number_bytes 8 ballot ++ value_bytes value.now)) }
     ensures err { OnErr result (out.new.items ≡ out.old.items) }
+    ensures room { vec_len out.old + 9 + length (value_bytes value.now) ≤ vec_capacity out.old → IsOk result }
 {
     let bytes = value.as_bytes();
     out.reserve(bytes.len().saturating_add(9))?;
@@ -137,10 +140,12 @@ impl<'a> Entry<'a> {
         }
     }
 
-    /// Appends the entry's one spelling. Without memory `out` stays as it was.
+    /// Appends the entry's one spelling. It takes memory only where `out` has no room for them,
+    /// and without memory `out` stays as it was.
     pub fn write(&self, out: &mut Vec<u8>) -> Result<(), NoMemory>
         ensures ok { OnOk result (out.new.items ≡ out.old.items ++ entry_bytes self.now) }
         ensures err { OnErr result (out.new.items ≡ out.old.items) }
+        ensures room { vec_len out.old + length (entry_bytes self.now) ≤ vec_capacity out.old → IsOk result }
     {
         match self {
             Entry::Boot {

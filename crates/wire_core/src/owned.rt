@@ -1,7 +1,8 @@
-ghost use Rattle.std.specs.Prelude.{◌≡◌, ◌<◌, ◌≤◌, ◌++◌, ◌∷◌, [], map, length, IfOk, OnOk, take};
+ghost use Rattle.std.specs.Prelude.{◌≡◌, ◌<◌, ◌≤◌, ◌++◌, ◌∷◌, [], map, length, IfOk, Ok};
 ghost use Rattle.std.specs.List.{flat_map};
 ghost use Rattle.wire_core.specs.Commands.{command_bytes, value_bytes};
 ghost use Rattle.wire_core.specs.Members.{Each};
+ghost use Rattle.wire_core.specs.Reading.{commands_in, value_at};
 ghost use Rattle.wire_core.specs.Same.{same_value};
 ghost use Rattle.wire_core.specs.Views.{IsWritable, command_of};
 
@@ -54,6 +55,14 @@ impl OwnedValue {
     {
         let bytes = spell_commands(alloc, commands)?;
         Ok(OwnedValue { bytes })
+    }
+
+    /// The value that these bytes spell.
+    pub(crate) fn from_spelling(bytes: Vec<u8>) -> OwnedValue
+        requires { value_at bytes.items ≡ Ok (commands_in bytes.items, []) }
+        ensures { result ≡ commands_in bytes.items }
+    {
+        OwnedValue { bytes }
     }
 
     /// A copy of the value.
