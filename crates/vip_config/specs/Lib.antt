@@ -9,3 +9,4 @@ pub mod Configs
 pub mod Rules
 pub mod Queries
 pub mod Leases
+pub mod Serving

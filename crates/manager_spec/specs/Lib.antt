@@ -1,0 +1,12 @@
+pub mod Manager
+pub mod Known
+pub mod Orders
+pub mod Proposal
+pub mod Leading
+pub mod Voting
+pub mod Clock
+pub mod Muxes
+pub mod Agents
+pub mod ManagerTable
+pub mod Agreement
+pub mod Footprints

@@ -1,0 +1,8 @@
+pub mod Same
+pub mod Sends
+pub mod Turns
+pub mod Steps
+pub mod Datagrams
+pub mod Causes
+pub mod Fastpath
+pub mod Boots
