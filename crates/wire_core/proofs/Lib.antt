@@ -6,3 +6,5 @@ pub mod AgainLaws
 pub mod WalkLaws
 pub mod EntryLaws
 pub mod OwnedLaws
+pub mod SameLaws
+pub mod LeasableLaws

@@ -1,6 +1,6 @@
 ghost use Rattle.std.specs.Prelude.{◌≡◌};
 ghost use Rattle.std.specs.List.{list_any};
-ghost use Rattle.wire_core.specs.Ranges.{allows, has_port, is_leasable, leasable_count};
+ghost use Rattle.wire_core.specs.Ranges.{allows, has_port, is_leasable};
 
 use crate::address::Ip4;
 use crate::items::Items;
@@ -77,22 +77,5 @@ impl LeaseRules {
             .as_slice()
             .iter()
             .any(|rule| rule.vip == r.vip && rule.allows(r.start))
-    }
-
-    /// How many ranges of the VIP may be leased. Looks at each of the 8,192 starts.
-    #[tactic(auto, unfolding(crate::specs::Ranges::count_starts))]
-    pub fn count(&self, vip: Ip4) -> u32
-        ensures { result ≡ leasable_count self.now vip }
-    {
-        let mut count = 0u32;
-        for eighth in 0..8192u16 {
-            if self.leasable(&Range {
-                vip,
-                start: 8 * eighth,
-            }) {
-                count += 1;
-            }
-        }
-        count
     }
 }

@@ -1,6 +1,7 @@
+use crate::fnv::{FNV_OFFSET, fnv_1a_from};
 use crate::{
-    Command, Entry, Ip4, Items, LeaseRules, MachineRule, Range, Value, ValueFault, VipRule,
-    read_u16, read_u32, read_u64,
+    Command, Entry, FlowKey, Ip4, Items, LeaseRules, MachineRule, Proto, Range, Value, ValueFault,
+    VipRule, read_u16, read_u32, read_u64,
 };
 use std::alloc::{AllocError, Global};
 use std::test::Fail;
@@ -153,5 +154,47 @@ fn entries_are_read_and_written(rt: HostRuntime) -> Result<(), Fail> {
     );
     assert!(rt; matches!(Entry::read(b"\x06"), Err(ValueFault::Field(0))));
     assert!(rt; matches!(Entry::read(b"\x02"), Err(ValueFault::Short)));
+    Ok(())
+}
+
+fn flow(source: u32, sport: u16, destination: u32, dport: u16, proto: Proto) -> FlowKey {
+    FlowKey {
+        src: Ip4(source),
+        dst: Ip4(destination),
+        sport,
+        dport,
+        proto,
+    }
+}
+
+// The numbers are those of an independent program for FNV-1a.
+#[test]
+fn hashes_of_flows(rt: HostRuntime) -> Result<(), Fail> {
+    let client = 0xc633_6407;
+    assert_eq!(rt;
+        flow(client, 5000, VIP.0, 80, Proto::Tcp).hash(),
+        0x8ed0_6032
+    );
+    assert_eq!(rt;
+        flow(client, 5001, VIP.0, 80, Proto::Tcp).hash(),
+        0xd9bf_6477
+    );
+    assert_eq!(rt;
+        flow(client, 5000, VIP.0, 80, Proto::Udp).hash(),
+        0x99d0_7183
+    );
+    assert_eq!(rt;
+        flow(0x0a01_0004, 65535, u32::MAX, 1, Proto::Udp).hash(),
+        0x67d4_6324
+    );
+    Ok(())
+}
+
+// Known vectors of FNV-1a for 32 bits.
+#[test]
+fn hashes_of_bytes(rt: HostRuntime) -> Result<(), Fail> {
+    assert_eq!(rt; fnv_1a_from(FNV_OFFSET, b""), 0x811c_9dc5);
+    assert_eq!(rt; fnv_1a_from(FNV_OFFSET, b"a"), 0xe40c_292c);
+    assert_eq!(rt; fnv_1a_from(FNV_OFFSET, b"foobar"), 0xbf9c_f968);
     Ok(())
 }
