@@ -163,7 +163,7 @@ counted-compact es live h = record {
 
 -- ---- the rows are in order
 
-below_weaken : (m n : ℕ) (rows : List Row) → m ≤ n → RowsBelow m rows → RowsBelow n rows
+pub below_weaken : (m n : ℕ) (rows : List Row) → m ≤ n → RowsBelow m rows → RowsBelow n rows
 below_weaken m n [] le h = tt
 below_weaken m n (row ∷ rows) le h = (let p : row.n < m = h.0 in omega arith, below_weaken m n rows le h.1)
 

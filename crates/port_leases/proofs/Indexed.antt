@@ -82,13 +82,13 @@ all_other n m (row ∷ rows) le h = grind (arith, nat_tests, all_other n m rows 
 abbrev pub without : ℕ → List Row → List Row
 without n rows = filter (λ row. not (row.n == n)) rows
 
-abbrev Head : Row → Row → List Row → Type 0
+abbrev pub Head : Row → Row → List Row → Type 0
 Head gone row rows = (row ≡ gone) × (without gone.n (row ∷ rows) ≡ rows)
 
-abbrev Tail : Row → Row → List Row → Type 0
+abbrev pub Tail : Row → Row → List Row → Type 0
 Tail gone row rows = (row_at rows gone.n ≡ Some gone) × (without gone.n (row ∷ rows) ≡ row ∷ without gone.n rows)
 
-head_or_tail : (gone row : Row) (rows : List Row) → RowsAscend (row ∷ rows) → row_at (row ∷ rows) gone.n ≡ Some gone → Head gone row rows ⊎ Tail gone row rows
+pub head_or_tail : (gone row : Row) (rows : List Row) → RowsAscend (row ∷ rows) → row_at (row ∷ rows) gone.n ≡ Some gone → Head gone row rows ⊎ Tail gone row rows
 head_or_tail gone row rows h there = by (row.n == gone.n) refl
   where
     by : (b : Bool) → (row.n == gone.n) ≡ b → Head gone row rows ⊎ Tail gone row rows

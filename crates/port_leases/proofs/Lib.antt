@@ -3,6 +3,8 @@ pub mod LiveRows
 pub mod Counted
 pub mod MachineRows
 pub mod Indexed
+pub mod Numbers
+pub mod Linked
 pub mod Blocks
 pub mod RequestLists
 pub mod Stored

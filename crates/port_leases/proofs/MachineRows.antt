@@ -1,13 +1,15 @@
 -- A machine's rows, one after the other by number.
-use Rattle.std.proofs.Common.{◌≡◌, ℕ, zero, suc, ◌+◌, ◌<◌, ◌≤◌, ◌==◌, Bool, true, false, ◌&&◌, cond, List, [], ◌∷◌, filter, find, length, get_or, drop, Option, Some, None, IfSome, nat_lt, refl, sym, ◌∙◌, arith}
+use Rattle.std.proofs.Common.{◌≡◌, ℕ, zero, suc, ◌+◌, ◌<◌, ◌≤◌, ◌==◌, Bool, true, false, ◌&&◌, cond, List, [], ◌∷◌, filter, find, length, get_or, drop, Option, Some, None, IfSome, nat_lt, refl, ap, sym, ◌∙◌, arith}
 use Rattle.std.proofs.lemmas.Bool.Decides.{nat_tests}
-use Rattle.std.proofs.lemmas.List.Sums.{sum_by-cons}
 use Rattle.wire_core.specs.declared.address.Ip4.{Ip4}
 use Rattle.lease_spec.specs.declared.row.Row.{Row}
-use Rattle.lease_spec.specs.Table.{row_count}
+use Rattle.lease_spec.specs.Table.{row_at}
 use Rattle.port_leases.specs.declared.entries.Entry.{Entry}
 use Rattle.port_leases.specs.Entries.{RowsAbove, RowsAscend, SplitsAt, live_rows, row_of}
+use Rattle.port_leases.specs.Links.{number_after, numbers_of}
+use Rattle.port_leases.specs.Rows.{number_of}
 use Rattle.port_leases.specs.TableState.{onward, rows_of}
+use Rattle.port_leases.proofs.Indexed.{found_at}
 
 -- ---- the next one, among the entries
 
@@ -75,9 +77,23 @@ pub onward_is : (rows : List Row) → RowsAscend rows → (m : Ip4) (n : ℕ) �
 onward_is [] h m n = refl
 onward_is (row ∷ rows) h m n = onward_step row rows m n h.0 (onward_is rows h.1 m n)
 
--- a machine without rows has none above any number
-pub none_of : (rows : List Row) (m : Ip4) (n : ℕ) → row_count rows m ≡ 0 → rows_of rows m n ≡ []
-none_of [] m n h = refl
-none_of (row ∷ rows) m n h =
-    let step : row_count (row ∷ rows) m ≡ cond (row.machine.0 == m.0) 1 0 + row_count rows m = sum_by-cons (λ x. cond (x.machine.0 == m.0) 1 0) row rows in
-    grind (arith, step, none_of rows m n, h)
+-- ---- the next one, by its number
+
+number-next : (rows : List Row) (m : Ip4) (n : ℕ) → number_after (numbers_of rows m) n ≡ number_of (next_of rows m n)
+number-next [] m n = refl
+number-next (row ∷ rows) m n = grind (arith, number-next rows m n)
+
+pub onward_none : (rows : List Row) (m : Ip4) (n : ℕ) → None ≡ number_after (numbers_of rows m) n → rows_of rows m n ≡ []
+onward_none [] m n h = refl
+onward_none (row ∷ rows) m n h = grind (arith, onward_none rows m n, h)
+
+pub onward_some : (rows : List Row) (m : Ip4) (n k : ℕ) → RowsAscend rows → Some k ≡ number_after (numbers_of rows m) n
+    → rows_of rows m n ≡ onward rows m (row_at rows k)
+onward_some rows m n k ascend h =
+    onward_is rows ascend m n ∙ ap (onward rows m) (by (next_of rows m n) refl)
+  where
+    by : (o : Option Row) → next_of rows m n ≡ o → next_of rows m n ≡ row_at rows k
+    by None e = let none = ap number_of (sym e) ∙ sym (number-next rows m n) ∙ sym h in absurd (cc)
+    by (Some found) e =
+        let number : found.n ≡ k = let some = ap number_of (sym e) ∙ sym (number-next rows m n) ∙ sym h in cc in
+        e ∙ sym (found_at (λ row. nat_lt n row.n && (row.machine.0 == m.0)) rows found ascend e) ∙ ap (row_at rows) number

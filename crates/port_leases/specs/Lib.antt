@@ -1,4 +1,5 @@
 pub mod Entries
+pub mod Links
 pub mod Effects
 pub mod Requests
 pub mod Rows

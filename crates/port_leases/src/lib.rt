@@ -8,7 +8,8 @@
 //! |---|---|---|
 //! | `entries` | rows in the order of their numbers, with places of rows that left | a binary search |
 //! | `numbered` | these as one value; places are given up once half of them are without a row | number |
-//! | `rows` | the rows, the number on each range, each machine's count | number, range, machine |
+//! | `links` | each machine's rows as a chain: the one before and the one after | number, machine |
+//! | `rows` | the rows, the number on each range, each machine's count and chain | number, range, machine |
 //! | `starts` | which starts of a VIP are free, and a summary by blocks of 64 | the least free one |
 //! | `requests` | known boots and last requests | agent, machine |
 //! | `effects` | what a slot's commands did so far | |
@@ -25,6 +26,7 @@
 mod commands;
 mod effects;
 mod entries;
+mod links;
 mod numbered;
 mod requests;
 mod rows;

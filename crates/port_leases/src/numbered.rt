@@ -90,6 +90,7 @@ impl NumberedRows {
         requires next { self.old.next ≤ row.n }
         ensures rows { self.new.rows ≡ self.old.rows ++ row ∷ [] }
         ensures next { self.new.next ≡ row.n + 1 }
+        ensures order { InOrder self.old.rows self.old.next }
         ensures room { self.old.room ≤ self.new.room + 1 }
     {
         self.entries.push_reserved(Entry { row, live: true });

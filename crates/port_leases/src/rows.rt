@@ -1,13 +1,15 @@
-ghost use Rattle.std.specs.Prelude.{◌≡◌, ◌<◌, ◌≤◌, ◌+◌, ◌-◌, ◌^◌, ◌++◌, ◌∷◌, [], true, not, ◌==◌, ◌||◌, if◌then◌else◌, map, filter, length, Some, unwrap_or, OnOk};
+ghost use Rattle.std.specs.Prelude.{ℕ, ◌≡◌, ◌<◌, ◌≤◌, ◌+◌, ◌-◌, ◌^◌, ◌++◌, ◌∷◌, [], true, not, ◌==◌, ◌||◌, if◌then◌else◌, nat_eq, map, filter, length, Some, unwrap_or, OnOk};
 ghost use Rattle.indexmap.specs.IndexMap.{get, spare};
 ghost use Rattle.lease_spec.specs.Free.{has_no_row, same_range};
 ghost use Rattle.lease_spec.specs.Table.{cleared, move, row_at, row_count};
 ghost use Rattle.port_leases.specs.Effects.{Adds, boot_effects};
 ghost use Rattle.port_leases.specs.Entries.{InOrder};
+ghost use Rattle.port_leases.specs.Links.{number_after, numbers_of};
 ghost use Rattle.port_leases.specs.Rows.{same_address};
 ghost use Rattle.port_leases.specs.TableState.{onward, row_above, row_on, rows_of};
 
 use crate::effects::Effects;
+use crate::links::Links;
 use crate::numbered::NumberedRows;
 use indexmap::IndexMap;
 use lease_spec::{Phase, Row};
@@ -23,20 +25,29 @@ pub struct Rows {
     numbers: IndexMap<Range, u64>,
     /// How many rows a machine has, where it ever had one.
     counts: IndexMap<Ip4, u32>,
+    /// From one row of a machine to the next.
+    links: Links,
 }
 
 impl Model for Rows {
-    ghost use Rattle.std.specs.Prelude.{min};
+    ghost use Rattle.std.specs.Prelude.{min, nat_eq};
     ghost use Rattle.indexmap.specs.IndexMap.{get, spare};
     ghost use Rattle.lease_spec.specs.Free.{same_range};
     ghost use Rattle.port_leases.specs.Entries.{Numbered};
+    ghost use Rattle.port_leases.specs.Links.{IsLinked};
     ghost use Rattle.port_leases.specs.Rows.{IsIndexed, same_address};
 
     ghost Value = { Numbered };
 
-    ghost view = { λ t. record { rows = t.rows.rows; next = t.rows.next; room = min t.rows.room (min (spare t.numbers) (spare t.counts)) } };
+    ghost view = { λ t. record {
+      rows = t.rows.rows;
+      next = t.rows.next;
+      room = min (min t.rows.room (min (spare t.numbers) (spare t.counts)))
+          (min (spare t.links.links) (spare t.links.ends));
+    } };
 
-    ghost invariant = { λ t. IsIndexed t.rows.rows (get same_range t.numbers) (get same_address t.counts) };
+    ghost invariant = { λ t. IsIndexed t.rows.rows (get same_range t.numbers) (get same_address t.counts)
+        × IsLinked t.rows.rows (get nat_eq t.links.links) (get same_address t.links.ends) };
 }
 
 /// How many rows the machine has.
@@ -88,6 +99,17 @@ fn drop_number(numbers: &mut IndexMap<Range, u64>, range: Range)
     numbers.swap_remove(&range);
 }
 
+/// The row with this number, if any.
+fn row_with(rows: &NumberedRows, number: Option<u64>) -> Option<Row>
+    ensures { (machine : Ip4) (above : ℕ) → number ≡ number_after (numbers_of rows.now.rows machine) above
+        → rows_of rows.now.rows machine above ≡ onward rows.now.rows machine result }
+{
+    match number {
+        Some(n) => rows.row_at(n),
+        None => None,
+    }
+}
+
 impl Rows {
     /// No rows.
     pub fn new(alloc: Global) -> Rows
@@ -98,6 +120,7 @@ impl Rows {
             rows: NumberedRows::new(alloc),
             numbers: IndexMap::new(alloc),
             counts: IndexMap::new(alloc),
+            links: Links::new(alloc),
         }
     }
 
@@ -124,14 +147,15 @@ impl Rows {
         self.rows.row_above(n)
     }
 
-    /// The machine's row with the least number above this one, if any. Costs a walk over the rows between them.
+    /// The machine's row with the least number above this one, if any. Where this number is below the machine's first or
+    /// is one of a row of the machine, it is found at once; else by a walk over the rows between them.
     pub fn next_row_of(&self, machine: Ip4, above: u64) -> Option<Row>
         ensures { rows_of self.now.rows machine above ≡ onward self.now.rows machine result }
     {
-        if self.count(machine) == 0 {
-            return None;
+        match self.links.next(machine, above) {
+            Some(number) => row_with(&self.rows, number),
+            None => self.rows.next_row_of(machine, above),
         }
-        self.rows.next_row_of(machine, above)
     }
 
     /// The row on this range.
@@ -167,6 +191,7 @@ impl Rows {
         self.rows.reserve(more)?;
         self.numbers.reserve(more)?;
         self.counts.reserve(more)?;
+        self.links.reserve(more)?;
         Ok(())
     }
 
@@ -182,6 +207,7 @@ impl Rows {
     {
         count_up(&mut self.counts, row.machine);
         put_number(&mut self.numbers, row.range, row.n);
+        self.links.push(row.n, row.machine);
         self.rows.push(row);
     }
 
@@ -204,6 +230,7 @@ impl Rows {
     {
         count_down(&mut self.counts, row.machine);
         drop_number(&mut self.numbers, row.range);
+        self.links.remove(row.n);
         self.rows.remove(row.n);
     }
 

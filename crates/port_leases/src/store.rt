@@ -1,4 +1,4 @@
-ghost use Rattle.std.specs.Prelude.{◌≡◌, ◌<◌, ◌≤◌, ◌+◌, ◌*◌, ◌/◌, ◌^◌, ◌-◌, ◌++◌, ◌∷◌, [], true, false, not, ◌==◌, filter, find, is_ok, nat_le, length, slice_set, Some, None, option_map, IsSomeAnd, if◌then◌else◌, IfSome, IfNone, OnOk, OnErr, IfOk};
+ghost use Rattle.std.specs.Prelude.{◌≡◌, ◌<◌, ◌≤◌, ◌+◌, ◌*◌, ◌/◌, ◌^◌, ◌-◌, ◌++◌, ◌∷◌, [], true, false, not, ◌==◌, filter, find, slice_index_or, ℕ, is_ok, nat_le, length, slice_set, Some, None, option_map, IsSomeAnd, if◌then◌else◌, IfSome, IfNone, OnOk, OnErr, IfOk};
 ghost use Rattle.std.specs.Option.{option_or};
 ghost use Rattle.indexmap.specs.IndexMap.{get};
 ghost use Rattle.lease_spec.specs.Free.{is_free, least_free};
@@ -9,6 +9,7 @@ ghost use Rattle.port_leases.specs.Rows.{same_address};
 ghost use Rattle.port_leases.specs.Store.{AreFree, IsFreeOf, first_of};
 ghost use Rattle.port_leases.specs.TableState.{has_vip, onward, row_above, row_on, rows_of};
 ghost use Rattle.port_leases.specs.Requests.{last_with};
+ghost use Rattle.wire_core.specs.Ranges.{is_leasable, range_at};
 ghost use Rattle.wire_core.specs.declared.address.Ip4 as ip;
 
 use crate::effects::Effects;
@@ -20,6 +21,9 @@ use lease_spec::{Effect, Outcome, Phase, Row};
 use std::alloc::Global;
 use std::marker::Model;
 use wire_core::{Ip4, LeaseRules, MachineRule, NoMemory, Range, VipRule};
+
+/// How many multiples of 8 there are among the ports.
+const STARTS: usize = 8192;
 
 /// The rules, and what stands now.
 #[derive(Drop)]
@@ -100,22 +104,27 @@ fn index_machines(
     Ok(machines)
 }
 
-/// Whether the range may be leased and has no row.
-fn is_free(rules: &LeaseRules, rows: &Rows, r: Range) -> bool
-    ensures { result ≡ is_free rules.now rows.now.rows r }
+/// Which ranges of the VIP may be leased. Looks once at each of its endpoints.
+fn leasable_starts(rules: &LeaseRules, vip: Ip4) -> [bool; STARTS]
+    ensures len { length result ≡ 8192 }
+    ensures each { (i : ℕ) → i < 8192 → slice_index_or result i false ≡ is_leasable rules.now (range_at vip (8 * i)) }
 {
-    rules.leasable(&r) && !rows.has_row(r)
+    let mut leasable = [false; STARTS];
+    rules.mark_leasable(vip, &mut leasable);
+    leasable
 }
 
-/// The free starts of a VIP.
+/// The free starts of a VIP: those that may be leased and have no row.
 fn fill(starts: &mut Starts, rules: &LeaseRules, rows: &Rows, vip: Ip4)
     requires count { length starts.old ≡ 8192 }
     requires named { has_vip rules.now vip ≡ true }
     ensures { AreFree rules.now rows.now.rows vip starts.new }
 {
+    let leasable = leasable_starts(rules, vip);
     for i in 0..8192u16 {
-        let free = is_free(rules, rows, Range { vip, start: 8 * i });
-        starts.set(usize::from(i), free);
+        let at = usize::from(i);
+        let free = leasable[at] && !rows.has_row(Range { vip, start: 8 * i });
+        starts.set(at, free);
     }
 }
 

@@ -1,7 +1,7 @@
 use Rattle.std.proofs.Common.{◌≡◌, ◌≤◌, ◌+◌, ◌∷◌, [], ◌++◌, length, subst, sym, ap, ◌∙◌, arith}
-use Rattle.port_leases.specs.Entries.{IsCounted, live_rows, next_number, Numbered}
+use Rattle.port_leases.specs.Entries.{InOrder, IsCounted, live_rows, next_number, Numbered}
 use Rattle.port_leases.proofs.LiveRows.{live_rows-push}
-use Rattle.port_leases.proofs.Counted.{counted-push, next-push, live-le-length}
+use Rattle.port_leases.proofs.Counted.{counted-push, next-push, live-le-length, rows_in_order}
 use Rattle.port_leases.proofs.numbered.NumberedRows.push.Goals as goal
 
 pub overflow_add-self : goal.overflow_add-self
@@ -24,3 +24,7 @@ pub returns-clause-next : goal.returns-clause-next
 returns-clause-next c =
     let next : next_number c.self.inside.entries.items ≤ c.args.row.n = let is = ap (λ (v : Numbered). v.next) c.self.view_is in rw is c.requires.next in
     ap next_number c.push_reserved.ensures.items ∙ next-push c.self.inside.entries.items _ next
+
+pub returns-clause-order : goal.returns-clause-order
+returns-clause-order c =
+    subst (λ (v : Numbered). InOrder v.rows v.next) c.self.view_is (rows_in_order c.self.inside.entries.items c.self.invariant.ascend)

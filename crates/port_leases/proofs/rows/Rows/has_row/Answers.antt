@@ -6,5 +6,5 @@ use Rattle.port_leases.proofs.rows.Rows.has_row.Goals as goal
 
 pub returns : goal.returns
 returns c =
-    ap not (c.contains_key.ensures ∙ ap is_some (c.self.invariant.numbers c.args.r) ∙ found_any (λ row. same_range row.range c.args.r) c.self.inside.rows.rows)
+    ap not (c.contains_key.ensures ∙ ap is_some (c.self.invariant.0.numbers c.args.r) ∙ found_any (λ row. same_range row.range c.args.r) c.self.inside.rows.rows)
     ∙ ap (λ (v : Numbered). has_no_row v.rows c.args.r) c.self.view_is

@@ -1,6 +1,10 @@
-use Rattle.std.proofs.Common.{sym, ◌∙◌}
-use Rattle.port_leases.proofs.MachineRows.{none_of}
+use Rattle.std.proofs.Common.{◌≡◌, subst}
+use Rattle.port_leases.specs.Entries.{Numbered}
+use Rattle.port_leases.specs.TableState.{onward, rows_of}
 use Rattle.port_leases.proofs.rows.Rows.next_row_of.Goals as goal
 
-pub returns-then-count-eq0 : goal.returns-then-count-eq0
-returns-then-count-eq0 c = none_of c.args.self.now.rows c.args.machine c.args.above (sym c.count.ensures ∙ c.if-count-eq0.true)
+pub returns-in-Some : goal.returns-in-Some
+returns-in-Some c =
+    let number = c.in-Some.ensures c.self.inside.rows.rows c.self.invariant.1 in
+    subst (λ (v : Numbered). rows_of v.rows c.args.machine c.args.above ≡ onward v.rows c.args.machine c.row_with.result) c.self.view_is
+    (c.row_with.ensures c.args.machine c.args.above number)
