@@ -1,13 +1,5 @@
-pub mod Quorums
-pub mod Growth
-pub mod Steps
-pub mod Plain
-pub mod Tells
-pub mod Handlers
-pub mod More
-pub mod Claims
-pub mod Logs
 pub mod Runs
 pub mod WorkedRuns
 pub mod Journaling
 pub mod Posting
+pub mod Tellings

@@ -3,7 +3,8 @@ use Rattle.std.proofs.Common.{refl}
 use Rattle.wire_core.specs.Reading.{value_at, count_at, commands_at, command_at, lease_at}
 use Rattle.paxos_spec.specs.Acceptor.{state_of}
 use Rattle.paxos_spec.specs.Replica.{on_prepare, on_promise, on_accept, on_accepted, on_refuse, on_chosen, on_campaign, on_offer}
-use Rattle.paxos_log.specs.World.{apply, disk_of, view}
+use Rattle.paxos_laws.specs.Disks.{disk_of}
+use Rattle.paxos_log.specs.World.{apply, view}
 use Rattle.paxos_log.specs.WorkedRuns.{ChosenRun, InheritingRun, InheritedRun, CatchingRun, NothingRun}
 
 pub chosen_run : ChosenRun

@@ -1,6 +1,4 @@
-pub mod Facts
-pub mod Steps
-pub mod Laws
 pub mod Durables
-pub mod WorkedRuns
 pub mod World
+pub mod Told
+pub mod WorkedRuns

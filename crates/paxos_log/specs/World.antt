@@ -1,13 +1,15 @@
 -- Five replicas, the messages between them, and what may happen next.
-use Rattle.std.specs.Prelude.{ℕ, ◌-◌, Bool, true, false, not, ◌&&◌, if◌then◌else◌, nat_lt, ◌==◌, List, [], ◌∷◌, ◌++◌, map, length, Option, Some, None, Result, Ok, Err, slice_get, slice_set, slice_index_or, position, fold}
+use Rattle.std.specs.Prelude.{ℕ, ◌-◌, Bool, true, false, not, ◌&&◌, if◌then◌else◌, nat_lt, ◌==◌, List, [], ◌∷◌, ◌++◌, map, length, Option, Some, None, Result, Ok, Err, slice_get, slice_set, slice_index_or, position}
 use Rattle.wire_core.specs.declared.entry.Entry.{Entry}
 use Rattle.wire_core.specs.declared.value.ValueFault.{ValueFault}
 use Rattle.wire_core.specs.Reading.{read_value}
 use Rattle.paxos_spec.specs.declared.mail.Mail.{Mail}
 use Rattle.paxos_spec.specs.Votes.{Value}
-use Rattle.paxos_spec.specs.Acceptor.{state_of}
+use Rattle.paxos_spec.specs.Acceptor.{state_of, with_entry}
 use Rattle.paxos_spec.specs.Replica.{Memory, new_memory, Out, quiet, on_message, on_campaign, on_offer}
-use Rattle.paxos_spec.specs.Agreement.{Disk, empty_disk, after, View}
+use Rattle.paxos_spec.specs.Agreement.{View}
+use Rattle.paxos_laws.specs.Steps.{cut_short}
+use Rattle.paxos_laws.specs.Disks.{disk_of}
 use Rattle.paxos_log.specs.declared.event.PaxosEvent.{PaxosEvent}
 use Rattle.paxos_log.specs.declared.event.PaxosEvent.TheVariants.{Campaign, Offer, Deliver, Crash}
 use Rattle.paxos_log.specs.declared.posts.Post.{Post}
@@ -30,10 +32,6 @@ start = record { replicas = new_replica ∷ new_replica ∷ new_replica ∷ new_
 abbrev pub replica : World → ℕ → Replica
 replica w i = slice_index_or w.replicas i new_replica
 
-abbrev pub with_entry : List Entry → Option Entry → List Entry
-with_entry entries None = entries
-with_entry entries (Some e) = entries ++ e ∷ []
-
 -- a replica after its step
 abbrev pub stepped : Replica → Out → Replica
 stepped x o = record { entries = with_entry x.entries o.entry; memory = o.memory }
@@ -43,15 +41,17 @@ posted x = record { mail = x; taken = false }
 
 -- A replica takes a step: its entry is durable, its memory changes, its messages are sent.
 unfoldable pub apply : World → ℕ → Out → World
-apply w i o = record { replicas = slice_set w.replicas i (stepped (replica w i) o); posts = w.posts ++ map posted o.sends }
-
--- It goes down in a step and opens again: the entry is kept, the memory is lost, no message is sent.
-abbrev pub cut_short : Out → Out
-cut_short o = record { entry = o.entry; memory = new_memory; sends = [] }
+apply w i o = record {
+  replicas = slice_set w.replicas i (stepped (replica w i) o);
+  posts = w.posts ++ map posted o.sends;
+}
 
 -- a message of no replica is passed over
 abbrev pub on_mail : ℕ → Replica → Mail → Out
-on_mail i x mail = if nat_lt mail.sender 5 then on_message i (state_of x.entries) x.memory mail.sender mail.body else quiet x.memory
+on_mail i x mail =
+    if nat_lt mail.sender 5
+    then on_message i (state_of x.entries) x.memory mail.sender mail.body
+    else quiet x.memory
 
 -- the message of this place counts as delivered
 abbrev pub takes : World → ℕ → Mail → World
@@ -99,7 +99,8 @@ offered w i (Some value) = apply w i (on_offer i (state_of (replica w i).entries
 
 -- One event. One that names no replica, no message or no value changes nothing.
 abbrev pub happens : World → PaxosEvent → World
-happens w (Campaign i) = if nat_lt i 5 then apply w i (on_campaign i (state_of (replica w i).entries) (replica w i).memory) else w
+happens w (Campaign i) =
+    if nat_lt i 5 then apply w i (on_campaign i (state_of (replica w i).entries) (replica w i).memory) else w
 happens w (Offer i bytes) = if nat_lt i 5 then offered w i (whole_value (length bytes) (read_value bytes)) else w
 happens w (Deliver k) = if nat_lt 0 k then delivered w (k - 1) (slice_get w.posts (k - 1)) else w
 happens w (Crash i true) = if nat_lt i 5 then cut_while w i (waiting i w.posts) else w
@@ -109,10 +110,6 @@ happens w (Crash i false) = if nat_lt i 5 then reopens w i else w
 abbrev pub run : List PaxosEvent → World → World
 run [] w = w
 run (e ∷ es) w = run es (happens w e)
-
--- what entries say, with all that they ever said
-unfoldable pub disk_of : List Entry → Disk
-disk_of entries = fold after empty_disk entries
 
 -- what the claims see of a world
 unfoldable pub view : World → View

@@ -1,8 +1,8 @@
 ghost use Rattle.std.specs.Prelude.{◌≡◌, [], option_map, slice_get, IfOk, OnErr};
 ghost use Rattle.paxos_acceptor.specs.Seen.{pair_of, standing};
 ghost use Rattle.paxos_log.specs.Durables.{entries_of};
-ghost use Rattle.paxos_log.specs.World.{with_entry};
-ghost use Rattle.paxos_spec.specs.Acceptor.{accept_entry, accept_step, chosen_entry, chosen_step, prepare_entry, prepare_step, reach, state_of};
+ghost use Rattle.paxos_spec.specs.Acceptor.{accept_entry, accept_step, chosen_entry, chosen_step};
+ghost use Rattle.paxos_spec.specs.Acceptor.{prepare_entry, prepare_step, reach, state_of, with_entry};
 
 use crate::durable::Durable;
 use paxos_acceptor::Acceptor;

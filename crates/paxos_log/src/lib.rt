@@ -1,9 +1,9 @@
 //! Agreement: no slot of the log has two values, whatever happens to five replicas.
 //!
 //! [`PaxosWorld`] is five replicas and every message that was ever sent between them. Its step is one of four events: a
-//! replica runs for election, is offered a value, gets a message, goes down and opens again. [`agreement`] says what holds
-//! after every list of events. [`order`], [`each_step`] and [`lasting`] say it of any view and one step of one replica, so
-//! that a world in which more happens takes it over step by step.
+//! replica runs for election, is offered a value, gets a message, goes down and opens again. [`agreement`] says what
+//! holds after every list of events, and [`told`] says it of what the replicas tell. The laws by which that is so are
+//! those of `paxos_laws`, which speak of any view and one step of one replica.
 //!
 //! | module | what a reader finds |
 //! |---|---|
@@ -17,9 +17,7 @@
 //! | subject | file of `specs/` |
 //! |---|---|
 //! | the world, its events, a run | `World` |
-//! | what holds of every world | `Facts` |
-//! | one step of one replica, and what it owes | `Steps` |
-//! | the laws for a larger world | `Laws` |
+//! | what a replica tells of what it learned | `Told` |
 //! | runs to look at | `WorkedRuns` |
 #![tactic(auto)]
 
@@ -36,7 +34,7 @@ mod voting;
 mod world;
 
 pub use event::PaxosEvent;
-pub use laws::{agreement, each_step, lasting, order, worked_runs};
+pub use laws::{agreement, told, worked_runs};
 pub use posts::Post;
 pub use world::PaxosWorld;
 

@@ -57,6 +57,11 @@ abbrev pub kept : AcceptorState → Option Entry → AcceptorState
 kept a None = a
 kept a (Some e) = follow a e
 
+-- its entries after the step
+abbrev pub with_entry : List Entry → Option Entry → List Entry
+with_entry entries None = entries
+with_entry entries (Some e) = entries ++ e ∷ []
+
 -- An acceptor: its state, and the entry of its last step.
 pub record Acceptor : Type 0 where
   pub state : AcceptorState

@@ -1,0 +1,10 @@
+pub mod Facts
+pub mod Steps
+pub mod Disks
+pub mod Order
+pub mod EachStep
+pub mod Lasting
+pub mod Values
+pub mod CommonLog
+pub mod Leading
+pub mod Worlds
