@@ -10,8 +10,8 @@ use Rattle.packet_spec.specs.Sums.{ones_sum, checksum}
 use Rattle.packet_spec.specs.Headers.{IsWhole, total_length, ttl_of, protocol_of, source_of, destination_of, payload_of, whole, is_fragment, ip_fault, read_ip, header_with, header_bytes, df_byte}
 use Rattle.packet_spec.specs.Edits.{put_ttl, put_header_sum}
 use Rattle.packet_spec.proofs.PacketLaws.{IsFine, fine_is}
-use Rattle.inet_sum.specs.Folds.{folded, word_sum}
-use Rattle.inet_sum.proofs.FoldLaws.{folded_add, folded-lt, folded_word, ones_sum_is_folded}
+use Rattle.packet_spec.specs.Folds.{folded, word_sum}
+use Rattle.packet_spec.proofs.FoldLaws.{folded_add, folded-lt, folded_word, ones_sum_is_folded}
 use Rattle.ipip.specs.declared.unwrapping.UnwrapFault.{UnwrapFault}
 use Rattle.ipip.specs.Wrapping.{outer_header, lowered, wrapped, wrap_fault, Unwrapped, carried_by, of_outer, unwrapped}
 

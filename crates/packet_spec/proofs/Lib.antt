@@ -1,2 +1,10 @@
 pub mod PacketLaws
+pub mod FoldLaws
+pub mod SumLaws
+pub mod LayoutLaws
+pub mod KeptLaws
+pub mod EditLaws
+pub mod RightLaws
+pub mod FineLaws
+pub mod AgreeLaws
 mod Worked

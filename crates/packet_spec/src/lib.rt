@@ -6,6 +6,7 @@
 //! |---|---|---|
 //! | `Words` | bytes and 16-bit words by their place, and what a write leaves | RFC 791, appendix B |
 //! | `Sums` | the one's complement sum and the checksum | RFC 1071, section 1 |
+//! | `Folds` | the plain sum of the words, and the carries folded in at the end | RFC 1071, section 2 |
 //! | `Headers` | the fields of the IPv4 header, and its faults in order | RFC 791, section 3.1 |
 //! | `Segments` | TCP and UDP segments, the pseudo-header, and their faults in order | RFC 9293, section 3.1; RFC 768 |
 //! | `Options` | where a TCP segment carries its maximum segment size | RFC 9293, section 3.2 |

@@ -1,5 +1,5 @@
 use Rattle.std.proofs.Common.{◌≤◌, length, refl, arith}
-use Rattle.inet_sum.proofs.FoldLaws.{block_more, last_block}
+use Rattle.inet_sum.proofs.BlockLaws.{block_more, last_block}
 use Rattle.inet_sum.proofs.sums.ones_sum.Goals as goal
 
 pub loop-left-preserved : goal.loop-left-preserved

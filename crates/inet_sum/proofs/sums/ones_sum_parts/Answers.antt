@@ -1,5 +1,5 @@
 use Rattle.std.proofs.Common.{arith}
-use Rattle.inet_sum.proofs.FoldLaws.{ones_sum-append}
+use Rattle.packet_spec.proofs.FoldLaws.{ones_sum-append}
 use Rattle.inet_sum.proofs.sums.ones_sum_parts.Goals as goal
 
 pub returns : goal.returns

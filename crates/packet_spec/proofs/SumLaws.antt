@@ -6,8 +6,8 @@ use Rattle.packet_spec.specs.Sums.{ones_sum, checksum}
 use Rattle.packet_spec.specs.Edits.{sent_sum}
 use Rattle.wire_core.specs.declared.flow.Proto.{Proto}
 use Rattle.wire_core.specs.declared.flow.Proto.TheVariants.{Tcp, Udp}
-use Rattle.inet_sum.specs.Folds.{folded, word_sum}
-use Rattle.inet_sum.proofs.FoldLaws.{folded_zero, folded_suc, folded_above, folded_word, folded-lt, ones_sum_is_folded}
+use Rattle.packet_spec.specs.Folds.{folded, word_sum}
+use Rattle.packet_spec.proofs.FoldLaws.{folded_zero, folded_suc, folded_above, folded_word, folded-lt, ones_sum_is_folded}
 
 abbrev pub IsBytes : List ℕ → Type 0
 IsBytes xs = (i : ℕ) → get_or xs i 0 < 256

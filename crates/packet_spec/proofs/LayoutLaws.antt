@@ -10,7 +10,7 @@ use Rattle.packet_spec.specs.Packets.{packet_fault, carried}
 use Rattle.packet_spec.specs.Segments.{HasFields, least_length, segment_fault}
 use Rattle.packet_spec.specs.Edits.{layout_of, segment_in, segment_end}
 use Rattle.packet_spec.proofs.PacketLaws.{HasHeader, has_header, header_is_fine, segment_is_fine, has_fields, udp_within, length-payload, payload_word}
-use Rattle.packet_edit.specs.Layouts.{LiesWithin}
+use Rattle.packet_spec.specs.Layouts.{LiesWithin}
 
 -- the bytes from the header to the total length are the payload
 pub tcp_segment : (p : List ℕ) → HasHeader p → slice_range p (header_length p) (total_length p) ≡ payload_of p

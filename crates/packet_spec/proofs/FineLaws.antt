@@ -14,12 +14,12 @@ use Rattle.packet_spec.specs.Segments.{segment_fault, covered, sum_place, udp_le
 use Rattle.packet_spec.specs.Packets.{packet_fault, proto_of, transport_fault, in_segment, carried}
 use Rattle.packet_spec.specs.Edits.{layout_of, put_source, put_destination, put_ttl, clamp, segment_end, segment_in, put_header_sum, put_segment_sum, put_sums, lacks_sum}
 use Rattle.packet_spec.proofs.PacketLaws.{HasHeader, has_header, IsFine, is_fine, fine_is, header_is_fine, segment_is_fine, has_fields, udp_within, length-payload, payload_byte, payload_word, fault_behind}
-use Rattle.packet_edit.specs.Layouts.{LiesWithin}
-use Rattle.packet_edit.proofs.LayoutLaws.{tcp_segment, fits_for}
-use Rattle.packet_edit.proofs.SumLaws.{IsBytes}
-use Rattle.packet_edit.proofs.KeptLaws.{Keeps, keeps_all}
-use Rattle.packet_edit.proofs.EditLaws.{Edited, edited_source, edited_destination, edited_clamp, edited_ttl, edited_header_sum, edited_segment_sum}
-use Rattle.packet_edit.proofs.RightLaws.{header_right, segment_right, segment_unsummed, take_put_behind}
+use Rattle.packet_spec.specs.Layouts.{LiesWithin}
+use Rattle.packet_spec.proofs.LayoutLaws.{tcp_segment, fits_for}
+use Rattle.packet_spec.proofs.SumLaws.{IsBytes}
+use Rattle.packet_spec.proofs.KeptLaws.{Keeps, keeps_all}
+use Rattle.packet_spec.proofs.EditLaws.{Edited, edited_source, edited_destination, edited_clamp, edited_ttl, edited_header_sum, edited_segment_sum}
+use Rattle.packet_spec.proofs.RightLaws.{header_right, segment_right, segment_unsummed, take_put_behind}
 
 -- a segment that passes the tests has no fault
 pub tcp_fine : (src dst : Ip4) (s : List ℕ) → 20 ≤ length s → 5 ≤ data_words s → data_offset s ≤ length s → ones_sum (covered Tcp src dst s) ≡ 65535 → segment_fault Tcp src dst s ≡ None

@@ -12,8 +12,8 @@ use Rattle.packet_spec.specs.Options.{option_at, follow, mss_from, mss_at, data_
 use Rattle.packet_spec.specs.Headers.{source_of, destination_of}
 use Rattle.packet_spec.specs.Segments.{sum_place, covered}
 use Rattle.packet_spec.specs.Edits.{put_source, put_destination, put_ttl, lower_word, placed, syn_mss, clamp, put_header_sum, put_segment_sum, segment_in, sent_sum, lacks_sum}
-use Rattle.packet_edit.proofs.SumLaws.{IsBytes, bytes_set, bytes_put}
-use Rattle.packet_edit.proofs.KeptLaws.{Keeps, keeps_set, keeps_put, free_in_header, free_behind, free_ttl, free_sum}
+use Rattle.packet_spec.proofs.SumLaws.{IsBytes, bytes_set, bytes_put}
+use Rattle.packet_spec.proofs.KeptLaws.{Keeps, keeps_set, keeps_put, free_in_header, free_behind, free_ttl, free_sum}
 
 -- a packet that keeps the parts of another, in bytes
 pub record Edited (start : ℕ) (p q : List ℕ) : Type 0 where

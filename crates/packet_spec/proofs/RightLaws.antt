@@ -12,10 +12,10 @@ use Rattle.packet_spec.specs.Sums.{ones_sum, checksum}
 use Rattle.packet_spec.specs.Headers.{source_of, destination_of}
 use Rattle.packet_spec.specs.Segments.{proto_number, pseudo_header, covered, sum_place, least_length}
 use Rattle.packet_spec.specs.Edits.{put_header_sum, put_segment_sum, segment_in, sent_sum, segment_sum, lacks_sum}
-use Rattle.inet_sum.proofs.FoldLaws.{bytes_append}
-use Rattle.packet_edit.specs.Layouts.{LiesWithin}
-use Rattle.packet_edit.proofs.LayoutLaws.{length-segment_in}
-use Rattle.packet_edit.proofs.SumLaws.{IsBytes, bytes_put, sum_right, sent_sum_right}
+use Rattle.packet_spec.proofs.FoldLaws.{bytes_append}
+use Rattle.packet_spec.specs.Layouts.{LiesWithin}
+use Rattle.packet_spec.proofs.LayoutLaws.{length-segment_in}
+use Rattle.packet_spec.proofs.SumLaws.{IsBytes, bytes_put, sum_right, sent_sum_right}
 
 -- parts of bytes are bytes
 pub bytes_take : (n : ℕ) (xs : List ℕ) → IsBytes xs → IsBytes (take n xs)
