@@ -5,7 +5,7 @@ use Rattle.std.proofs.lemmas.List.{ext_get_or, get_or-take, get_or-drop, length-
 use Rattle.std.specs.List.{slice_range}
 use Rattle.wire_core.specs.declared.address.Ip4.{Ip4}
 use Rattle.packet_spec.specs.Words.{word_at, address_at, put_word, put_address}
-use Rattle.packet_spec.specs.Edits.{lower_word}
+use Rattle.packet_spec.specs.Edits.{lower_word, placed}
 
 -- at each of these places both lists have a number, and it is the same
 pub record Agree (here : ℕ → Type 0) (x y : List ℕ) : Type 0 where
@@ -109,11 +109,13 @@ agree_if here x1 x2 y1 y2 true false e f g = absurd (cc)
 agree_if here x1 x2 y1 y2 false true e f g = absurd (cc)
 
 -- a word lowered at a place where they agree
-pub agree_lower : (here : ℕ → Type 0) (x y : List ℕ) (o : Option ℕ) → Agree here x y
-    → ((v : ℕ) → o ≡ Some v → here v × here (v + 1)) → Agree here (lower_word o x) (lower_word o y)
-agree_lower here x y None a h = a
-agree_lower here x y (Some v) a h =
+pub agree_lower : (here : ℕ → Type 0) (x y : List ℕ) (start : ℕ) (o : Option ℕ) → Agree here x y
+    → ((v : ℕ) → o ≡ Some v → here (start + v) × here (start + v + 1))
+    → Agree here (lower_word (placed start o) x) (lower_word (placed start o) y)
+agree_lower here x y start None a h = a
+agree_lower here x y start (Some v) a h =
     let there = h v refl in
-    let w = agree_word here x y v a there.0 there.1 in
-    agree_if here (put_word x v 1440) x (put_word y v 1440) y (nat_lt 1440 (word_at x v)) (nat_lt 1440 (word_at y v))
-    (ap (λ (n : ℕ). nat_lt 1440 n) w) (agree_put here x y v 1440 a) a
+    let w = agree_word here x y (start + v) a there.0 there.1 in
+    agree_if here (put_word x (start + v) 1440) x (put_word y (start + v) 1440) y
+    (nat_lt 1440 (word_at x (start + v))) (nat_lt 1440 (word_at y (start + v)))
+    (ap (λ (n : ℕ). nat_lt 1440 n) w) (agree_put here x y (start + v) 1440 a) a

@@ -1,5 +1,5 @@
 -- Each edit keeps what the parts of a packet are found by, and its bytes.
-use Rattle.std.proofs.Common.{◌≡◌, ℕ, zero, suc, ◌+◌, ◌/◌, ◌%◌, ◌<◌, ◌≤◌, ◌^◌, Bool, true, false, nat_lt, if◌then◌else◌, List, take, Option, Some, None, refl, arith, lit<}
+use Rattle.std.proofs.Common.{◌≡◌, ℕ, zero, suc, ◌+◌, ◌/◌, ◌%◌, ◌<◌, ◌≤◌, ◌^◌, Bool, true, false, nat_lt, if◌then◌else◌, List, length, take, Option, Some, None, refl, arith, lit<}
 use Rattle.wire_core.specs.declared.address.Ip4.{Ip4}
 use Rattle.wire_core.specs.declared.flow.Proto.{Proto}
 use Rattle.wire_core.specs.declared.flow.Proto.TheVariants.{Tcp, Udp}
@@ -10,7 +10,7 @@ use Rattle.packet_spec.specs.Words.{word_at, put_word, put_address}
 use Rattle.packet_spec.specs.Sums.{checksum}
 use Rattle.packet_spec.specs.Options.{option_at, follow, mss_from, mss_at, data_offset}
 use Rattle.packet_spec.specs.Headers.{source_of, destination_of}
-use Rattle.packet_spec.specs.Segments.{sum_place, covered}
+use Rattle.packet_spec.specs.Segments.{HasFields, sum_place, covered}
 use Rattle.packet_spec.specs.Edits.{put_source, put_destination, put_ttl, lower_word, placed, syn_mss, clamp, put_header_sum, put_segment_sum, segment_in, sent_sum, lacks_sum}
 use Rattle.packet_spec.proofs.SumLaws.{IsBytes, bytes_set, bytes_put}
 use Rattle.packet_spec.proofs.KeptLaws.{Keeps, keeps_set, keeps_put, free_in_header, free_behind, free_ttl, free_sum}
@@ -66,6 +66,28 @@ mss_above (suc n) s end at v e = follow_above s end at v (λ x. mss_from n s end
 pub syn_mss_above : (proto : Proto) (s : List ℕ) (v : ℕ) → syn_mss proto s ≡ Some v → 22 ≤ v
 unfolding mss_at
 syn_mss_above proto s v e = let m = mss_above 40 s (data_offset s) 20 v in grind arith
+
+-- and within the options
+step_within : (s : List ℕ) (end at x : ℕ) → option_at s end at ≡ Size x → x + 2 ≤ end
+unfolding option_at
+step_within s end at x e = grind arith
+
+follow_within : (s : List ℕ) (end at v : ℕ) (more : ℕ → Option ℕ) → ((x : ℕ) → more x ≡ Some v → v + 2 ≤ end)
+    → (r : OptionStep) → option_at s end at ≡ r → follow more r ≡ Some v → v + 2 ≤ end
+follow_within s end at v more ih Stop is e = absurd (cc)
+follow_within s end at v more ih (Size x) is e = let p = step_within s end at x is in let q : x ≡ v = cc in omega arith
+follow_within s end at v more ih (Next x) is e = ih x e
+
+mss_within : (n : ℕ) (s : List ℕ) (end at v : ℕ) → mss_from n s end at ≡ Some v → v + 2 ≤ end
+unfolding mss_from
+mss_within zero s end at v e = absurd (cc)
+mss_within (suc n) s end at v e =
+    follow_within s end at v (λ x. mss_from n s end x) (λ x. mss_within n s end x v) (option_at s end at) refl e
+
+pub syn_mss_within : (proto : Proto) (s : List ℕ) (v : ℕ) → HasFields proto s → syn_mss proto s ≡ Some v → v + 2 ≤ length s
+unfolding mss_at
+syn_mss_within Tcp s v f e = let options = f.options in let m = mss_within 40 s (data_offset s) 20 v in grind arith
+syn_mss_within Udp s v f e = absurd (cc)
 
 -- either of two
 pub edited_if : (start : ℕ) (p x y : List ℕ) (b : Bool) → Edited start p x → Edited start p y → Edited start p (if b then x else y)

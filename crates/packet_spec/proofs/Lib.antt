@@ -7,4 +7,8 @@ pub mod EditLaws
 pub mod RightLaws
 pub mod FineLaws
 pub mod AgreeLaws
+pub mod PlaceLaws
+pub mod BecomeLaws
+pub mod WholeLaws
+pub mod JoinLaws
 mod Worked

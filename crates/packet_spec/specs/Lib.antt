@@ -7,4 +7,5 @@ pub mod Options
 pub mod Packets
 pub mod Edits
 pub mod Layouts
+pub mod Causes
 pub mod Laws
