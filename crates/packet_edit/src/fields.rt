@@ -2,7 +2,8 @@
 ghost use Rattle.std.specs.Prelude.{◌≡◌, ◌≤◌, ◌+◌, length, IfSome, Some, None};
 ghost use Rattle.packet_spec.specs.Segments.{HasFields};
 ghost use Rattle.packet_spec.specs.Packets.{packet_fault, carried};
-ghost use Rattle.packet_spec.specs.Edits.{layout_of, put_source, put_destination, put_ttl, syn_mss, lower_word, clamp, segment_in};
+ghost use Rattle.packet_spec.specs.Edits.{layout_of, put_source, put_destination, put_ttl, syn_mss, lower_word};
+ghost use Rattle.packet_spec.specs.Edits.{clamp, segment_in};
 ghost use Rattle.packet_spec.specs.Layouts.{LiesWithin};
 
 use packet_spec::{Layout, put_address, put_word, word_at};

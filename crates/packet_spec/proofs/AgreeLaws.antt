@@ -1,5 +1,7 @@
 -- Two lists that have the same numbers at some places, and what is left of it when both are edited.
-use Rattle.std.proofs.Common.{◌≡◌, ◌≢◌, ℕ, zero, suc, ◌+◌, ◌-◌, ◌/◌, ◌%◌, ◌<◌, ◌≤◌, Bool, true, false, nat_lt, if◌then◌else◌, List, [], ◌∷◌, length, take, drop, get_or, slice_set, Option, Some, None, refl, sym, ap, ◌∙◌, arith}
+use Rattle.std.proofs.Common.{◌≡◌, ◌≢◌, ℕ, zero, suc, ◌+◌, ◌-◌, ◌/◌, ◌%◌, ◌<◌, ◌≤◌, Bool, true, false, nat_lt}
+use Rattle.std.proofs.Common.{if◌then◌else◌, List, [], ◌∷◌, length, take, drop, get_or, slice_set, Option, Some, None}
+use Rattle.std.proofs.Common.{refl, sym, ap, ◌∙◌, arith}
 use Rattle.std.proofs.Math.ListN.{length-set}
 use Rattle.std.proofs.lemmas.List.{ext_get_or, get_or-take, get_or-drop, length-take, length-drop}
 use Rattle.std.specs.List.{slice_range}
@@ -74,7 +76,8 @@ agree_address_at here x y at a h =
 length-range : (x : List ℕ) (start end : ℕ) → end ≤ length x → length (slice_range x start end) ≡ end - start
 length-range x start end within = simp (length-take, length-drop) (omega arith)
 
-range_byte : (x : List ℕ) (start end i : ℕ) → i < end - start → get_or (slice_range x start end) i 0 ≡ get_or x (start + i) 0
+range_byte : (x : List ℕ) (start end i : ℕ) → i < end - start
+    → get_or (slice_range x start end) i 0 ≡ get_or x (start + i) 0
 range_byte x start end i lt = get_or-take (end - start) (drop start x) i 0 lt ∙ get_or-drop start x i 0
 
 pub agree_range : (here : ℕ → Type 0) (x y : List ℕ) (start end : ℕ) → Agree here x y → end ≤ length x → end ≤ length y
@@ -83,9 +86,9 @@ agree_range here x y start end a left right h =
     let lx = length-range x start end left in
     let ly = length-range y start end right in
     ext_get_or 0 (slice_range x start end) (slice_range y start end) (lx ∙ sym ly) (λ i lt.
-        let room : i < end - start = omega arith in
-        range_byte x start end i room ∙ a.same (start + i) (h (start + i) (omega arith) (omega arith))
-        ∙ sym (range_byte y start end i room))
+    let room : i < end - start = omega arith in
+    range_byte x start end i room ∙ a.same (start + i) (h (start + i) (omega arith) (omega arith))
+    ∙ sym (range_byte y start end i room))
 
 pub agree_front : (here : ℕ → Type 0) (x y : List ℕ) (n : ℕ) → Agree here x y → n ≤ length x → n ≤ length y
     → ((i : ℕ) → i < n → here i) → take n x ≡ take n y
@@ -93,8 +96,8 @@ agree_front here x y n a left right h =
     let lx : length (take n x) ≡ n = length-take n x ∙ omega arith in
     let ly : length (take n y) ≡ n = length-take n y ∙ omega arith in
     ext_get_or 0 (take n x) (take n y) (lx ∙ sym ly) (λ i lt.
-        let room : i < n = omega arith in
-        get_or-take n x i 0 room ∙ a.same i (h i room) ∙ sym (get_or-take n y i 0 room))
+    let room : i < n = omega arith in
+    get_or-take n x i 0 room ∙ a.same i (h i room) ∙ sym (get_or-take n y i 0 room))
 
 -- lists of one length that agree everywhere are one
 pub agree_all : (x y : List ℕ) → length x ≡ length y → Agree (λ i. i < length x) x y → x ≡ y

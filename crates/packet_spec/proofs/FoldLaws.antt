@@ -1,5 +1,6 @@
 -- Folding a sum of words gives their one's complement sum, whatever multiples of 65535 are added or taken away.
-use Rattle.std.proofs.Common.{◌≡◌, ℕ, zero, suc, ◌+◌, ◌-◌, ◌*◌, ◌/◌, ◌%◌, ◌<◌, ◌≤◌, List, [], ◌∷◌, ◌++◌, length, refl, sym, ap, ◌∙◌, arith, lit<, get_or}
+use Rattle.std.proofs.Common.{◌≡◌, ℕ, zero, suc, ◌+◌, ◌-◌, ◌*◌, ◌/◌, ◌%◌, ◌<◌, ◌≤◌, List, [], ◌∷◌, ◌++◌, length, refl}
+use Rattle.std.proofs.Common.{sym, ap, ◌∙◌, arith, lit<, get_or}
 use Rattle.std.proofs.Math.Nat.{add-mul-mod_self_left, div-add-mod', mod-eq_of_lt, mod-lt}
 use Rattle.packet_spec.specs.Sums.{ones_add, ones_sum}
 use Rattle.packet_spec.specs.Folds.{folded, word_sum}
@@ -7,7 +8,8 @@ use Rattle.packet_spec.specs.Folds.{folded, word_sum}
 -- above zero, a multiple of 65535 makes no difference
 pub folded_above : (n k : ℕ) → 0 < n → folded (n + 65535 * k) ≡ folded n
 unfolding folded
-folded_above n k h = let e : n + 65535 * k - 1 ≡ n - 1 + 65535 * k = omega arith in let m = add-mul-mod_self_left (n - 1) 65535 k in grind (arith, e, m)
+folded_above n k h = let e : n + 65535 * k - 1 ≡ n - 1 + 65535 * k = omega arith in let m =
+    add-mul-mod_self_left (n - 1) 65535 k in grind (arith, e, m)
 
 -- what differs by a multiple of 65535 folds to the same, where only 0 is taken for 0
 pub folded_same : (m n k : ℕ) → m ≡ n + 65535 * k → (n ≡ 0 → k ≡ 0) → folded m ≡ folded n
@@ -49,14 +51,17 @@ folded-pos n h = grind arith
 -- a word is its own fold
 pub folded_word : (n : ℕ) → n < 65536 → folded n ≡ n
 folded_word zero h = folded_zero
-folded_word (suc n) h = let p : n < 65535 = omega arith in let e : n % 65535 ≡ n = mod-eq_of_lt p in folded_suc n ∙ ap (λ (x : ℕ). x + 1) e ∙ omega arith
+folded_word (suc n) h = let p : n < 65535 = omega arith in let e : n % 65535 ≡ n = mod-eq_of_lt p in folded_suc n
+    ∙ ap (λ (x : ℕ). x + 1) e ∙ omega arith
 
 -- one's complement addition of two words
 pub ones_add_words : (x r : ℕ) → x < 65536 → 0 < r → r < 65536 → ones_add x r ≡ folded (x + r)
 unfolding ones_add
 ones_add_words x r h p q =
     let small : x + r < 65536 → folded (x + r) ≡ x + r = folded_word (x + r) in
-    let large : 65536 ≤ x + r → folded (x + r) ≡ x + r - 65535 = λ k. folded_same (x + r) (x + r - 65535) 1 (omega arith) (λ z. omega arith) ∙ folded_word (x + r - 65535) (omega arith) in
+    let large : 65536 ≤ x + r → folded (x + r) ≡ x + r - 65535 =
+    λ k. folded_same (x + r) (x + r - 65535) 1 (omega arith) (λ z. omega arith)
+    ∙ folded_word (x + r - 65535) (omega arith) in
     grind (arith, small, large)
 
 -- one's complement addition of a word and 0
@@ -94,13 +99,15 @@ word_sum-append (a ∷ []) ys h = absurd (omega arith)
 word_sum-append (a ∷ b ∷ rest) ys h = let r = word_sum-append rest ys (omega arith) in omega (arith, r)
 
 -- the bytes of two parts are bytes
-pub bytes_append : (xs ys : List ℕ) → ((i : ℕ) → get_or xs i 0 < 256) → ((i : ℕ) → get_or ys i 0 < 256) → (i : ℕ) → get_or (xs ++ ys) i 0 < 256
+pub bytes_append : (xs ys : List ℕ) → ((i : ℕ) → get_or xs i 0 < 256) → ((i : ℕ) → get_or ys i 0 < 256) → (i : ℕ)
+    → get_or (xs ++ ys) i 0 < 256
 bytes_append [] ys h k i = k i
 bytes_append (x ∷ xs) ys h k zero = h 0
 bytes_append (x ∷ xs) ys h k (suc i) = bytes_append xs ys (λ j. h (suc j)) k i
 
 -- two parts, the first of an even number of bytes
-pub ones_sum-append : (xs ys : List ℕ) → length xs % 2 ≡ 0 → ((i : ℕ) → get_or xs i 0 < 256) → ((i : ℕ) → get_or ys i 0 < 256) → folded (ones_sum xs + ones_sum ys) ≡ ones_sum (xs ++ ys)
+pub ones_sum-append : (xs ys : List ℕ) → length xs % 2 ≡ 0 → ((i : ℕ) → get_or xs i 0 < 256)
+    → ((i : ℕ) → get_or ys i 0 < 256) → folded (ones_sum xs + ones_sum ys) ≡ ones_sum (xs ++ ys)
 ones_sum-append xs ys even h k =
     let x = ones_sum_is_folded xs h in
     let y = ones_sum_is_folded ys k in
@@ -108,4 +115,5 @@ ones_sum-append xs ys even h k =
     let parts = word_sum-append xs ys even in
     let swap : word_sum xs + folded (word_sum ys) ≡ folded (word_sum ys) + word_sum xs = omega arith in
     let back : word_sum ys + word_sum xs ≡ word_sum xs + word_sum ys = omega arith in
-    rw (x, y, all, parts) (folded_add (word_sum xs) (folded (word_sum ys)) ∙ ap folded swap ∙ folded_add (word_sum ys) (word_sum xs) ∙ ap folded back)
+    rw (x, y, all, parts) (folded_add (word_sum xs) (folded (word_sum ys)) ∙ ap folded swap
+    ∙ folded_add (word_sum ys) (word_sum xs) ∙ ap folded back)

@@ -11,4 +11,5 @@ pub mod PlaceLaws
 pub mod BecomeLaws
 pub mod WholeLaws
 pub mod JoinLaws
+mod WorkedBytes
 mod Worked

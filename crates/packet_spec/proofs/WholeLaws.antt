@@ -1,15 +1,18 @@
 -- A packet with the bytes past its total length, and without them.
-use Rattle.std.proofs.Common.{◌≡◌, ℕ, ◌+◌, ◌-◌, ◌*◌, ◌%◌, ◌<◌, ◌≤◌, ◌==◌, Bool, nat_lt, if◌then◌else◌, List, length, take, drop, get_or, Option, Some, None, Ok, refl, sym, ap, ◌∙◌, subst, arith}
+use Rattle.std.proofs.Common.{◌≡◌, ℕ, ◌+◌, ◌-◌, ◌*◌, ◌%◌, ◌<◌, ◌≤◌, ◌==◌, Bool, nat_lt, if◌then◌else◌, List, length}
+use Rattle.std.proofs.Common.{take, drop, get_or, Option, Some, None, Ok, refl, sym, ap, ◌∙◌, subst, arith}
 use Rattle.std.proofs.lemmas.List.{take_all, take-take}
 use Rattle.wire_core.specs.declared.flow.FlowKey.{FlowKey}
 use Rattle.wire_core.specs.declared.flow.Proto.{Proto}
 use Rattle.wire_core.specs.declared.flow.Proto.TheVariants.{Tcp, Udp}
 use Rattle.wire_core.specs.Numbers.{AreBytes}
-use Rattle.packet_spec.specs.Headers.{IsWhole, header_length, total_length, source_of, destination_of, payload_of, whole, unless_fault}
+use Rattle.packet_spec.specs.Headers.{IsWhole, header_length, total_length, source_of, destination_of, payload_of}
+use Rattle.packet_spec.specs.Headers.{whole, unless_fault}
 use Rattle.packet_spec.specs.Segments.{source_port, destination_port, segment_bytes, is_syn, is_ack, is_rst}
 use Rattle.packet_spec.specs.Packets.{packet_fault, read_packet, carried, segment_of, key_of, has_syn, has_ack, has_rst}
 use Rattle.packet_spec.specs.Laws.{IsSound}
-use Rattle.packet_spec.proofs.PacketLaws.{HasHeader, has_header, header_is_fine, whole_is_fine, length-whole, byte_of_whole, word_of_whole, address_of_whole, payload_of_whole}
+use Rattle.packet_spec.proofs.PacketLaws.{HasHeader, has_header, header_is_fine, whole_is_fine, length-whole}
+use Rattle.packet_spec.proofs.PacketLaws.{byte_of_whole, word_of_whole, address_of_whole, payload_of_whole}
 use Rattle.packet_spec.proofs.RightLaws.{bytes_take}
 use Rattle.packet_spec.proofs.PlaceLaws.{same_flow}
 
@@ -70,14 +73,17 @@ key_of_whole p h =
 pub syn_of_whole : (p : List ℕ) → HasHeader p → has_syn (whole p) ≡ has_syn p
 unfolding has_syn
 syn_of_whole p h =
-    ap (λ (x : Proto). is_syn x (segment_of (whole p))) (carried_of_whole p h) ∙ ap (λ (s : List ℕ). is_syn (carried p) s) (segment_of_whole p h)
+    ap (λ (x : Proto). is_syn x (segment_of (whole p))) (carried_of_whole p h)
+    ∙ ap (λ (s : List ℕ). is_syn (carried p) s) (segment_of_whole p h)
 
 pub ack_of_whole : (p : List ℕ) → HasHeader p → has_ack (whole p) ≡ has_ack p
 unfolding has_ack
 ack_of_whole p h =
-    ap (λ (x : Proto). is_ack x (segment_of (whole p))) (carried_of_whole p h) ∙ ap (λ (s : List ℕ). is_ack (carried p) s) (segment_of_whole p h)
+    ap (λ (x : Proto). is_ack x (segment_of (whole p))) (carried_of_whole p h)
+    ∙ ap (λ (s : List ℕ). is_ack (carried p) s) (segment_of_whole p h)
 
 pub rst_of_whole : (p : List ℕ) → HasHeader p → has_rst (whole p) ≡ has_rst p
 unfolding has_rst
 rst_of_whole p h =
-    ap (λ (x : Proto). is_rst x (segment_of (whole p))) (carried_of_whole p h) ∙ ap (λ (s : List ℕ). is_rst (carried p) s) (segment_of_whole p h)
+    ap (λ (x : Proto). is_rst x (segment_of (whole p))) (carried_of_whole p h)
+    ∙ ap (λ (s : List ℕ). is_rst (carried p) s) (segment_of_whole p h)

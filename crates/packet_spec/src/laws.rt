@@ -3,7 +3,8 @@ ghost use Rattle.std.specs.Prelude.{◌≡◌, ◌-◌, ℕ, List, Ok};
 ghost use Rattle.wire_core.specs.declared.address.Ip4.{Ip4};
 ghost use Rattle.packet_spec.specs.Headers.{IsWhole, ttl_of, whole};
 ghost use Rattle.packet_spec.specs.Packets.{has_ack, has_rst, has_syn, key_of, read_packet};
-ghost use Rattle.packet_spec.specs.Edits.{clamp_mss, restored, set_destination, set_source, translate_destination, translate_source, translated};
+ghost use Rattle.packet_spec.specs.Edits.{clamp_mss, restored, set_destination, set_source, translate_destination};
+ghost use Rattle.packet_spec.specs.Edits.{translate_source, translated};
 ghost use Rattle.packet_spec.specs.Laws.{Becomes, IsEnd, IsSound, from_end, to_end};
 
 /// A law of each edit of a packet without fault: it makes again a packet without fault, with as many bytes and the same

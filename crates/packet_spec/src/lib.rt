@@ -1,6 +1,6 @@
 //! What an IPv4 packet with a TCP or UDP segment is, as definitions: the words in which every contract on packets
-//! is written. The only code here is the types that these definitions share with the code above, the reading and writing
-//! of a 16-bit word and an address, and the cause of a fault.
+//! is written. The only code here is the types that these definitions share with the code above, the reading and
+//! writing of a 16-bit word and an address, and the cause of a fault.
 //!
 //! | file of `specs/` | what it defines | standard |
 //! |---|---|---|

@@ -13,4 +13,6 @@ loop-left-preserved c =
     }
 
 pub returns : goal.returns
-returns c = rw (c.fold.ensures, c.from-2.ensures) (last_block c.loop-left.sum c.block_sum-2.result c.loop-left.left.now c.args.bytes.now c.loop-left.invariant.whole (λ i. omega (arith, c.type_inv.bytes i)) c.block_sum-2.ensures.sum)
+returns c = rw (c.fold.ensures, c.from-2.ensures)
+    (last_block c.loop-left.sum c.block_sum-2.result c.loop-left.left.now c.args.bytes.now c.loop-left.invariant.whole
+    (λ i. omega (arith, c.type_inv.bytes i)) c.block_sum-2.ensures.sum)

@@ -1,4 +1,5 @@
-use Rattle.packet_spec.proofs.BecomeLaws.{set_source_becomes, set_destination_becomes, clamp_mss_becomes, translate_source_becomes, translate_destination_becomes}
+use Rattle.packet_spec.proofs.BecomeLaws.{set_source_becomes, set_destination_becomes, clamp_mss_becomes}
+use Rattle.packet_spec.proofs.BecomeLaws.{translate_source_becomes, translate_destination_becomes}
 use Rattle.packet_spec.proofs.laws.edits_of_packets.Goals as goal
 
 pub returns-clause-source : goal.returns-clause-source

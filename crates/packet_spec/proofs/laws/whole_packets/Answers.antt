@@ -1,5 +1,6 @@
 use Rattle.packet_spec.proofs.PacketLaws.{has_header, header_is_fine}
-use Rattle.packet_spec.proofs.WholeLaws.{whole_is_sound, sound_is_whole, whole_stays, read_again, key_of_whole, syn_of_whole, ack_of_whole, rst_of_whole}
+use Rattle.packet_spec.proofs.WholeLaws.{whole_is_sound, sound_is_whole, whole_stays, read_again, key_of_whole}
+use Rattle.packet_spec.proofs.WholeLaws.{syn_of_whole, ack_of_whole, rst_of_whole}
 use Rattle.packet_spec.proofs.JoinLaws.{whole_translated, whole_restored}
 use Rattle.packet_spec.proofs.laws.whole_packets.Goals as goal
 
