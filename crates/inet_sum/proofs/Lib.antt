@@ -1,1 +1,1 @@
-pub mod FoldLaws
+pub mod BlockLaws

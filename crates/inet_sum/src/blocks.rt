@@ -1,10 +1,10 @@
 // Sums of little-endian words with the carries kept in wide numbers.
 ghost use Rattle.std.specs.Prelude.{◌≡◌, ◌≤◌, ◌<◌, ◌*◌, ◌^◌, length};
-ghost use Rattle.inet_sum.specs.Folds.{folded, word_sum};
+ghost use Rattle.packet_spec.specs.Folds.{folded, word_sum};
 
 /// The sum with its carries folded in: 0 for 0, and else the number from 1 to 65535 that differs by a multiple of
 /// 65535.
-#[tactic(auto, unfolding(crate::specs::Folds::folded))]
+#[tactic(auto, unfolding(packet_spec::specs::Folds::folded))]
 pub(crate) fn fold(sum: u64) -> u16
     ensures { result ≡ folded sum }
 {
@@ -16,7 +16,7 @@ pub(crate) fn fold(sum: u64) -> u16
 }
 
 /// The sum of what stands behind the last eight bytes of a block, as little-endian words.
-#[tactic(auto, using(crate::proofs::FoldLaws::two_bytes_more, crate::proofs::FoldLaws::last_byte, crate::proofs::FoldLaws::no_byte))]
+#[tactic(auto, using(crate::proofs::BlockLaws::two_bytes_more, crate::proofs::BlockLaws::last_byte, crate::proofs::BlockLaws::no_byte))]
 fn tail_sum(bytes: &[u8]) -> u64
     requires { length bytes.now < 8 }
     ensures sum { folded (256 * result) ≡ folded (word_sum bytes.now) }
@@ -35,7 +35,7 @@ fn tail_sum(bytes: &[u8]) -> u64
 }
 
 /// The sum of a block as little-endian words, two times 32 bits at a step, with its carries still in it.
-#[tactic(auto, using(crate::proofs::FoldLaws::chunk_more, crate::proofs::FoldLaws::tail_added))]
+#[tactic(auto, using(crate::proofs::BlockLaws::chunk_more, crate::proofs::BlockLaws::tail_added))]
 pub(crate) fn block_sum(bytes: &[u8]) -> u64
     requires { length bytes.now ≤ 65536 }
     ensures sum { folded (256 * result) ≡ folded (word_sum bytes.now) }

@@ -1,5 +1,7 @@
 ghost use Rattle.std.specs.Prelude.{◌≡◌, ◌+◌, ◌*◌, ◌≤◌, ◌==◌, length};
-ghost use Rattle.packet_spec.specs.Headers.{read_ip, tos_of, ttl_of, has_df, protocol_of, source_of, destination_of, header_of, payload_of, header_length, total_length, is_header_sum_wrong, is_fragment, IsWhole};
+ghost use Rattle.packet_spec.specs.Headers.{read_ip, tos_of, ttl_of, has_df, protocol_of, source_of, destination_of};
+ghost use Rattle.packet_spec.specs.Headers.{header_of, payload_of, header_length, total_length, is_header_sum_wrong};
+ghost use Rattle.packet_spec.specs.Headers.{is_fragment, IsWhole};
 
 use inet_sum::ones_sum;
 use packet_spec::{IpFault, address_at, word_at};

@@ -1,2 +1,4 @@
 pub mod BufferLaws
 pub mod InverseLaws
+pub mod ForwardLaws
+mod Worked

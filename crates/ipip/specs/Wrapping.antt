@@ -1,10 +1,12 @@
 -- An IPv4 packet within an IPv4 packet (RFC 2003).
-use Rattle.std.specs.Prelude.{◌≡◌, ℕ, zero, suc, ◌+◌, ◌-◌, ◌^◌, ◌<◌, true, List, ◌++◌, nat_lt, nat_le, ◌==◌, Option, Some, None, Result, Ok, Err, if◌then◌else◌}
+use Rattle.std.specs.Prelude.{◌≡◌, ℕ, zero, suc, ◌+◌, ◌-◌, ◌^◌, ◌<◌, true, List, ◌++◌, nat_lt, nat_le, ◌==◌, Option}
+use Rattle.std.specs.Prelude.{Some, None, Result, Ok, Err, if◌then◌else◌}
 use Rattle.wire_core.specs.declared.address.Ip4.{Ip4}
 use Rattle.packet_spec.specs.declared.fault.IpFault.{IpFault}
 use Rattle.packet_spec.specs.declared.header.Ip4Header.{Ip4Header}
 use Rattle.wire_core.specs.Numbers.{AreBytes}
-use Rattle.packet_spec.specs.Headers.{IsWhole, tos_of, ttl_of, total_length, protocol_of, source_of, destination_of, payload_of, header_bytes, read_ip}
+use Rattle.packet_spec.specs.Headers.{IsWhole, tos_of, ttl_of, total_length, protocol_of, source_of, destination_of}
+use Rattle.packet_spec.specs.Headers.{payload_of, header_bytes, read_ip}
 use Rattle.packet_spec.specs.Edits.{layout_of, put_ttl, put_header_sum}
 use Rattle.ipip.specs.declared.wrapping.WrapFault.{WrapFault}
 use Rattle.ipip.specs.declared.wrapping.WrapFault.TheVariants.{TooLong, TtlOut}

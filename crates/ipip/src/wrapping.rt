@@ -35,6 +35,22 @@ fn may_wrap(inner: &Ip4View, hops: u8) -> Result<(), WrapFault>
     Ok(())
 }
 
+/// What forbids it to wrap the packet by [`wrap`]: `Ok` exactly where that call would write. Nothing is written.
+pub fn can_wrap(inner: &Ip4View) -> Result<(), WrapFault>
+    ensures { MatchResult result (λ _. wrap_fault 1 inner.now ≡ None)
+        (λ fault. wrap_fault 1 inner.now ≡ Some fault) }
+{
+    may_wrap(inner, 1)
+}
+
+/// What forbids it to wrap the packet by [`wrap_local`]: `Ok` exactly where that call would write. Nothing is written.
+pub fn can_wrap_local(inner: &Ip4View) -> Result<(), WrapFault>
+    ensures { MatchResult result (λ _. wrap_fault 0 inner.now ≡ None)
+        (λ fault. wrap_fault 0 inner.now ≡ Some fault) }
+{
+    may_wrap(inner, 0)
+}
+
 /// The outer header of a packet that may be wrapped.
 fn outer_of(outer_src: Ip4, outer_dst: Ip4, inner: &Ip4View) -> [u8; 20]
     requires { length inner.now ≤ 65000 }

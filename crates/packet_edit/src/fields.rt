@@ -2,8 +2,9 @@
 ghost use Rattle.std.specs.Prelude.{◌≡◌, ◌≤◌, ◌+◌, length, IfSome, Some, None};
 ghost use Rattle.packet_spec.specs.Segments.{HasFields};
 ghost use Rattle.packet_spec.specs.Packets.{packet_fault, carried};
-ghost use Rattle.packet_spec.specs.Edits.{layout_of, put_source, put_destination, put_ttl, syn_mss, lower_word, clamp, segment_in};
-ghost use Rattle.packet_edit.specs.Layouts.{LiesWithin};
+ghost use Rattle.packet_spec.specs.Edits.{layout_of, put_source, put_destination, put_ttl, syn_mss, lower_word};
+ghost use Rattle.packet_spec.specs.Edits.{clamp, segment_in};
+ghost use Rattle.packet_spec.specs.Layouts.{LiesWithin};
 
 use packet_spec::{Layout, put_address, put_word, word_at};
 use tcp_udp_codec::mss_at;
@@ -27,7 +28,7 @@ const SYN: u8 = 0x02;
 const GREATEST_MSS: u16 = 1440;
 
 /// Where the parts of a packet without fault lie.
-#[tactic(auto, using(crate::proofs::LayoutLaws::laid_out, crate::proofs::LayoutLaws::laid_fields, crate::proofs::LayoutLaws::long_enough, crate::proofs::LayoutLaws::udp_length_there), unfolding(packet_spec::specs::Edits::layout_of))]
+#[tactic(auto, using(packet_spec::proofs::LayoutLaws::laid_out, packet_spec::proofs::LayoutLaws::laid_fields, packet_spec::proofs::LayoutLaws::long_enough, packet_spec::proofs::LayoutLaws::udp_length_there), unfolding(packet_spec::specs::Edits::layout_of))]
 pub(crate) fn layout_of(p: &[u8]) -> Layout
     requires { packet_fault p.now ≡ None }
     ensures long { 20 ≤ length p.now }

@@ -1,7 +1,8 @@
 ghost use Rattle.std.specs.Prelude.{◌≡◌, length, take, OnOk, IfOk, None};
 ghost use Rattle.wire_core.specs.declared.flow.Proto.TheVariants.{Tcp, Udp};
 ghost use Rattle.packet_spec.specs.Headers.{ttl_of};
-ghost use Rattle.packet_spec.specs.Packets.{read_packet, packet_fault, proto_of, carried, key_of, has_syn, has_ack, has_rst};
+ghost use Rattle.packet_spec.specs.Packets.{read_packet, packet_fault, proto_of, carried, key_of, has_syn, has_ack};
+ghost use Rattle.packet_spec.specs.Packets.{has_rst};
 
 use ip_codec::Ip4View;
 use packet_spec::PacketFault;

@@ -2,7 +2,7 @@
 ghost use Rattle.std.specs.Prelude.{◌≡◌, ◌≤◌, ◌+◌, length};
 ghost use Rattle.packet_spec.specs.Segments.{sum_place};
 ghost use Rattle.packet_spec.specs.Edits.{put_header_sum, put_segment_sum, put_sums, sent_sum};
-ghost use Rattle.packet_edit.specs.Layouts.{LiesWithin};
+ghost use Rattle.packet_spec.specs.Layouts.{LiesWithin};
 
 use inet_sum::checksum;
 use packet_spec::{Layout, address_at, put_word, word_at};

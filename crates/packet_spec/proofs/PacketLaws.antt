@@ -1,12 +1,15 @@
 -- What a packet without fault is known to have.
-use Rattle.std.proofs.Common.{◌≡◌, ℕ, ◌+◌, ◌-◌, ◌*◌, ◌<◌, ◌≤◌, false, not, ◌||◌, ◌==◌, ◌/◌, ◌%◌, List, length, take, drop, get_or, slice_index, Option, Some, None, Ok, Err, refl, sym, ap, ◌∙◌, arith}
+use Rattle.std.proofs.Common.{◌≡◌, ℕ, ◌+◌, ◌-◌, ◌*◌, ◌<◌, ◌≤◌, false, not, ◌||◌, ◌==◌, ◌/◌, ◌%◌, List, length, take}
+use Rattle.std.proofs.Common.{drop, get_or, slice_index, Option, Some, None, Ok, Err, refl, sym, ap, ◌∙◌, arith}
 use Rattle.std.proofs.lemmas.List.{get_or-drop, get_or-take, length-drop, length-take, take-take}
 use Rattle.wire_core.specs.declared.flow.Proto.{Proto}
 use Rattle.wire_core.specs.declared.flow.Proto.TheVariants.{Tcp, Udp}
 use Rattle.wire_core.specs.declared.address.Ip4.{Ip4}
 use Rattle.packet_spec.specs.declared.fault.IpFault.{IpFault}
 use Rattle.packet_spec.specs.Words.{word_at, address_at}
-use Rattle.packet_spec.specs.Headers.{version, is_fragment, ip_fault, read_ip, unless_fault, header_of, protocol_of, header_words, header_length, total_length, source_of, destination_of, payload_of, whole}
+use Rattle.packet_spec.specs.Headers.{version, is_fragment, ip_fault, read_ip, unless_fault, header_of, protocol_of}
+use Rattle.packet_spec.specs.Headers.{header_words, header_length, total_length, source_of, destination_of}
+use Rattle.packet_spec.specs.Headers.{payload_of, whole}
 use Rattle.packet_spec.specs.Sums.{ones_sum}
 use Rattle.packet_spec.specs.Segments.{segment_fault, HasFields, udp_length}
 use Rattle.packet_spec.specs.Packets.{packet_fault, proto_of, transport_fault, in_segment, carried}
@@ -44,7 +47,8 @@ pub header_is_fine : (p : List ℕ) → packet_fault p ≡ None → ip_fault p �
 unfolding packet_fault
 header_is_fine p fine = grind arith
 
-pub segment_is_fine : (p : List ℕ) → packet_fault p ≡ None → segment_fault (carried p) (source_of p) (destination_of p) (payload_of p) ≡ None
+pub segment_is_fine : (p : List ℕ) → packet_fault p ≡ None
+    → segment_fault (carried p) (source_of p) (destination_of p) (payload_of p) ≡ None
 unfolding packet_fault
 segment_is_fine p fine = grind arith
 
@@ -55,7 +59,8 @@ has_fields Tcp src dst s fine = grind arith
 has_fields Udp src dst s fine = grind arith
 
 -- a datagram's length lies within its bytes
-pub udp_within : (src dst : Ip4) (s : List ℕ) → segment_fault Udp src dst s ≡ None → (8 ≤ udp_length s) × (udp_length s ≤ length s)
+pub udp_within : (src dst : Ip4) (s : List ℕ) → segment_fault Udp src dst s ≡ None
+    → (8 ≤ udp_length s) × (udp_length s ≤ length s)
 unfolding segment_fault
 udp_within src dst s fine = grind arith
 
@@ -64,11 +69,14 @@ pub length-payload : (p : List ℕ) → HasHeader p → length (payload_of p) �
 length-payload p h = let t = h.total in simp (length-drop, length-take) (omega arith)
 
 -- a byte of the payload is the packet's
-pub payload_byte : (p : List ℕ) (i : ℕ) → HasHeader p → header_length p + i < total_length p → get_or (payload_of p) i 0 ≡ get_or p (header_length p + i) 0
-payload_byte p i h k = get_or-drop (header_length p) (take (total_length p) p) i 0 ∙ get_or-take (total_length p) p (header_length p + i) 0 k
+pub payload_byte : (p : List ℕ) (i : ℕ) → HasHeader p → header_length p + i < total_length p
+    → get_or (payload_of p) i 0 ≡ get_or p (header_length p + i) 0
+payload_byte p i h k = get_or-drop (header_length p) (take (total_length p) p) i 0
+    ∙ get_or-take (total_length p) p (header_length p + i) 0 k
 
 -- a word of the payload is the packet's
-pub payload_word : (p : List ℕ) (i : ℕ) → HasHeader p → header_length p + i + 1 < total_length p → word_at (payload_of p) i ≡ word_at p (header_length p + i)
+pub payload_word : (p : List ℕ) (i : ℕ) → HasHeader p → header_length p + i + 1 < total_length p
+    → word_at (payload_of p) i ≡ word_at p (header_length p + i)
 payload_word p i h k =
     let first : header_length p + i < total_length p = omega arith in
     let second : header_length p + (i + 1) < total_length p = omega arith in
@@ -158,7 +166,9 @@ ip_fault_of_whole p fine =
     let v = f.version_is in
     let n = f.header in
     let words : header_words (whole p) ≡ header_words p = ap (λ (x : ℕ). x % 16) b0 in
-    let first : is_fragment (whole p) ≡ is_fragment p = ap (λ (x : ℕ). (x / 32 % 2 == 1) || not (word_at (whole p) 6 % 8192 == 0)) b6 ∙ ap (λ (x : ℕ). (slice_index p 6 / 32 % 2 == 1) || not (x % 8192 == 0)) w6 in
+    let first : is_fragment (whole p) ≡ is_fragment p =
+    ap (λ (x : ℕ). (x / 32 % 2 == 1) || not (word_at (whole p) 6 % 8192 == 0)) b6
+    ∙ ap (λ (x : ℕ). (slice_index p 6 / 32 % 2 == 1) || not (x % 8192 == 0)) w6 in
     fine_is (whole p) (record {
       long = omega arith;
       version_is = ap (λ (x : ℕ). x / 16) b0 ∙ v;
@@ -170,20 +180,24 @@ ip_fault_of_whole p fine =
     })
 
 -- the same parts give the same fault
-pub transport_same : (o : Option Proto) (p q : List ℕ) → source_of q ≡ source_of p → destination_of q ≡ destination_of p → payload_of q ≡ payload_of p
+pub transport_same : (o : Option Proto) (p q : List ℕ) → source_of q ≡ source_of p
+    → destination_of q ≡ destination_of p → payload_of q ≡ payload_of p
     → transport_fault o q ≡ transport_fault o p
 transport_same None p q a b c = refl
-transport_same (Some proto) p q a b c = ap (λ (x : Ip4). in_segment (segment_fault proto x (destination_of q) (payload_of q))) a
+transport_same (Some proto) p q a b c =
+    ap (λ (x : Ip4). in_segment (segment_fault proto x (destination_of q) (payload_of q))) a
     ∙ ap (λ (x : Ip4). in_segment (segment_fault proto (source_of p) x (payload_of q))) b
     ∙ ap (λ (x : List ℕ). in_segment (segment_fault proto (source_of p) (destination_of p) x)) c
 
-pub transport_of_whole : (p : List ℕ) → HasHeader p → transport_fault (proto_of (protocol_of (whole p))) (whole p) ≡ transport_fault (proto_of (protocol_of p)) p
+pub transport_of_whole : (p : List ℕ) → HasHeader p → transport_fault (proto_of (protocol_of (whole p))) (whole p)
+    ≡ transport_fault (proto_of (protocol_of p)) p
 transport_of_whole p h =
     let header = h.header in
     let within = h.within in
     let number = byte_of_whole p 9 (omega arith) in
     ap (λ (n : ℕ). transport_fault (proto_of n) (whole p)) number
-    ∙ transport_same (proto_of (protocol_of p)) p (whole p) (address_of_whole p 12 (omega arith)) (address_of_whole p 16 (omega arith)) (payload_of_whole p h)
+    ∙ transport_same (proto_of (protocol_of p)) p (whole p) (address_of_whole p 12 (omega arith))
+    (address_of_whole p 16 (omega arith)) (payload_of_whole p h)
 
 -- behind a header without fault the packet's fault is its segment's
 pub fault_behind : (p : List ℕ) → ip_fault p ≡ None → packet_fault p ≡ transport_fault (proto_of (protocol_of p)) p
@@ -194,4 +208,5 @@ fault_behind p fine = rw fine refl
 pub whole_is_fine : (p : List ℕ) → packet_fault p ≡ None → packet_fault (whole p) ≡ None
 whole_is_fine p fine =
     let head = header_is_fine p fine in
-    fault_behind (whole p) (ip_fault_of_whole p head) ∙ transport_of_whole p (has_header p head) ∙ sym (fault_behind p head) ∙ fine
+    fault_behind (whole p) (ip_fault_of_whole p head) ∙ transport_of_whole p (has_header p head)
+    ∙ sym (fault_behind p head) ∙ fine

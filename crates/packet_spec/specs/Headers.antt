@@ -1,8 +1,10 @@
 -- The IPv4 header (RFC 791, section 3.1).
-use Rattle.std.specs.Prelude.{◌≡◌, ◌≤◌, ℕ, ◌*◌, ◌/◌, ◌%◌, Bool, true, false, not, ◌||◌, ◌==◌, nat_lt, List, ◌∷◌, ◌++◌, length, take, drop, slice_index, Option, Some, None, Result, Ok, Err, if◌then◌else◌}
+use Rattle.std.specs.Prelude.{◌≡◌, ◌≤◌, ℕ, ◌*◌, ◌/◌, ◌%◌, Bool, true, false, not, ◌||◌, ◌==◌, nat_lt, List, ◌∷◌, ◌++◌}
+use Rattle.std.specs.Prelude.{length, take, drop, slice_index, Option, Some, None, Result, Ok, Err, if◌then◌else◌}
 use Rattle.wire_core.specs.declared.address.Ip4.{Ip4}
 use Rattle.packet_spec.specs.declared.fault.IpFault.{IpFault}
-use Rattle.packet_spec.specs.declared.fault.IpFault.TheVariants.{Short, Version, HeaderLength, TotalLength, HeaderSum, Fragment}
+use Rattle.packet_spec.specs.declared.fault.IpFault.TheVariants.{Short, Version, HeaderLength, TotalLength, HeaderSum}
+use Rattle.packet_spec.specs.declared.fault.IpFault.TheVariants.{Fragment}
 use Rattle.packet_spec.specs.declared.header.Ip4Header.{Ip4Header}
 use Rattle.packet_spec.specs.Words.{word_at, address_at, word_bytes, address_bytes}
 use Rattle.packet_spec.specs.Sums.{ones_sum, checksum}

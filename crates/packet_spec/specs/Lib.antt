@@ -1,7 +1,11 @@
 pub mod Words
 pub mod Sums
+pub mod Folds
 pub mod Headers
 pub mod Segments
 pub mod Options
 pub mod Packets
 pub mod Edits
+pub mod Layouts
+pub mod Causes
+pub mod Laws

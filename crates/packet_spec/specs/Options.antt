@@ -1,6 +1,7 @@
 -- The options of a TCP header (RFC 9293, section 3.2): kind 0 ends them, kind 1 is one byte of padding, and any
 -- other kind is followed by its length, which counts both bytes.
-use Rattle.std.specs.Prelude.{◌≤◌, ℕ, zero, suc, ◌+◌, ◌*◌, ◌/◌, Bool, ◌&&◌, ◌||◌, ◌==◌, nat_lt, nat_le, List, slice_index, Option, Some, None, if◌then◌else◌}
+use Rattle.std.specs.Prelude.{◌≤◌, ℕ, zero, suc, ◌+◌, ◌*◌, ◌/◌, Bool, ◌&&◌, ◌||◌, ◌==◌, nat_lt, nat_le, List}
+use Rattle.std.specs.Prelude.{slice_index, Option, Some, None, if◌then◌else◌}
 use Rattle.packet_spec.specs.declared.options.OptionStep.{OptionStep}
 use Rattle.packet_spec.specs.declared.options.OptionStep.TheVariants.{Stop, Size, Next}
 

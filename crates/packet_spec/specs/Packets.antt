@@ -8,7 +8,8 @@ use Rattle.packet_spec.specs.declared.fault.PacketFault.{PacketFault}
 use Rattle.packet_spec.specs.declared.fault.PacketFault.TheVariants.{Ip, NotTransport, Segment}
 use Rattle.packet_spec.specs.declared.fault.SegmentFault.{SegmentFault}
 use Rattle.packet_spec.specs.Headers.{ip_fault, protocol_of, source_of, destination_of, payload_of, whole, unless_fault}
-use Rattle.packet_spec.specs.Segments.{segment_fault, segment_bytes, source_port, destination_port, is_syn, is_rst, is_ack}
+use Rattle.packet_spec.specs.Segments.{segment_fault, segment_bytes, source_port, destination_port, is_syn, is_rst}
+use Rattle.packet_spec.specs.Segments.{is_ack}
 
 -- the transport of a protocol number
 abbrev pub proto_of : ℕ → Option Proto

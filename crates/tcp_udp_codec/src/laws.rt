@@ -9,6 +9,7 @@ pub fn finds_the_first_maximum_segment_size()
     ensures found { (s : List ℕ) (before : List OtherOption) (high low : ℕ) (rest : List ℕ)
         → HasOptions s before (2 ∷ 4 ∷ high ∷ low ∷ rest)
         → mss_at s ≡ Some (20 + length (all_spelled before) + 2) }
-    ensures ended { (s : List ℕ) (before : List OtherOption) (rest : List ℕ) → HasOptions s before (0 ∷ rest) → mss_at s ≡ None }
+    ensures ended { (s : List ℕ) (before : List OtherOption) (rest : List ℕ) → HasOptions s before (0 ∷ rest)
+        → mss_at s ≡ None }
     ensures spent { (s : List ℕ) (before : List OtherOption) → HasOptions s before [] → mss_at s ≡ None }
 {}

@@ -1,6 +1,7 @@
 ghost use Rattle.std.specs.Prelude.{◌≡◌, ◌+◌, ◌*◌, ◌≤◌, length, IfSome};
 ghost use Rattle.wire_core.specs.declared.flow.Proto.TheVariants.{Tcp, Udp};
-ghost use Rattle.packet_spec.specs.Segments.{read_segment, source_port, destination_port, is_syn, is_ack, is_rst, segment_mss, udp_length};
+ghost use Rattle.packet_spec.specs.Segments.{read_segment, source_port, destination_port, is_syn, is_ack, is_rst};
+ghost use Rattle.packet_spec.specs.Segments.{segment_mss, udp_length};
 
 use crate::options::{data_offset, mss_at};
 use crate::pseudo::segment_sum;

@@ -1,6 +1,6 @@
 use Rattle.std.proofs.Common.{◌≡◌, ◌≤◌, ◌*◌, ◌+◌, drop}
 use Rattle.inet_sum.proofs.blocks.block_sum.Given as goal
-use Rattle.inet_sum.specs.Folds.{folded, word_sum}
+use Rattle.packet_spec.specs.Folds.{folded, word_sum}
 
 -- what was added, then the words that are left, fold to the sum of all
 abbrev pub invariant-loop-eight : goal.invariant-loop-eight

@@ -1,5 +1,5 @@
 use Rattle.std.proofs.Common.{◌≤◌, length, refl, arith}
-use Rattle.inet_sum.proofs.FoldLaws.{block_more, last_block}
+use Rattle.inet_sum.proofs.BlockLaws.{block_more, last_block}
 use Rattle.inet_sum.proofs.sums.ones_sum.Goals as goal
 
 pub loop-left-preserved : goal.loop-left-preserved
@@ -13,4 +13,6 @@ loop-left-preserved c =
     }
 
 pub returns : goal.returns
-returns c = rw (c.fold.ensures, c.from-2.ensures) (last_block c.loop-left.sum c.block_sum-2.result c.loop-left.left.now c.args.bytes.now c.loop-left.invariant.whole (λ i. omega (arith, c.type_inv.bytes i)) c.block_sum-2.ensures.sum)
+returns c = rw (c.fold.ensures, c.from-2.ensures)
+    (last_block c.loop-left.sum c.block_sum-2.result c.loop-left.left.now c.args.bytes.now c.loop-left.invariant.whole
+    (λ i. omega (arith, c.type_inv.bytes i)) c.block_sum-2.ensures.sum)

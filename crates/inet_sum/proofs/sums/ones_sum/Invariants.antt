@@ -1,5 +1,5 @@
 use Rattle.std.proofs.Common.{◌≡◌, ◌+◌, ◌<◌, length}
-use Rattle.inet_sum.specs.Folds.{folded, word_sum}
+use Rattle.packet_spec.specs.Folds.{folded, word_sum}
 use Rattle.inet_sum.proofs.sums.ones_sum.Given as goal
 
 -- what was added, then the words that are left, fold to the sum of all

@@ -11,4 +11,5 @@ pub returns-clause-ended : goal.returns-clause-ended
 returns-clause-ended c = λ s before rest h. ended s before rest h.within h.most h.others h.bytes
 
 pub returns-clause-spent : goal.returns-clause-spent
-returns-clause-spent c = λ s before h. spent s before h.within h.most h.others (h.bytes ∙ append-nil (all_spelled before))
+returns-clause-spent c = λ s before h. spent s before h.within h.most h.others (h.bytes
+    ∙ append-nil (all_spelled before))
