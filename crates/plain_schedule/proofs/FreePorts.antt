@@ -32,3 +32,7 @@ found_later p f y ys is = rw (flat_map-cons f y ys, find-append p (f y) (flat_ma
 pub free_is : {X : Type 0} (r wanted : Option X) (b : Bool) → r ≡ wanted → is_some r ≡ not b → is_none wanted ≡ b
 free_is r wanted true e s = ap is_none (sym e) ∙ ap not s
 free_is r wanted false e s = ap is_none (sym e) ∙ ap not s
+
+pub none_left : {X : Type 0} (o : Option X) → false ≡ is_some o → o ≡ None
+none_left None e = refl
+none_left (Some x) e = absurd (cc)

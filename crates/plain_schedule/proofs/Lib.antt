@@ -6,5 +6,8 @@ pub mod KeyLaws
 pub mod ListLaws
 pub mod Kept
 pub mod Openings
+pub mod FullLaws
+pub mod TableSteps
+pub mod FullKept
 pub mod PortLines
 pub mod SafetyLaws

@@ -9,7 +9,7 @@ use Rattle.wire_core.specs.declared.rules.VipRule.{VipRule}
 use Rattle.wire_core.specs.Ranges.{allows, is_leasable}
 use Rattle.wire_core.specs.Members.{In, Each}
 use Rattle.lease_spec.specs.declared.row.Row.{Row}
-use Rattle.lease_spec.specs.Table.{row_at}
+use Rattle.lease_spec.specs.Table.{row_at, rule_of}
 use Rattle.lease_spec.proofs.MemberLaws.{each_append, each_in, in_cases, found_passes, found_in}
 use Rattle.port_leases.specs.TableState.{rows_of}
 use Rattle.plain_schedule.specs.declared.connections.Connection.{Connection}
@@ -19,7 +19,9 @@ use Rattle.plain_schedule.specs.Schedule.{Plain}
 use Rattle.plain_schedule.specs.Safety.{IsThrough}
 use Rattle.plain_schedule.proofs.KeyLaws.{both, number_is, address_is, key_is, key_same}
 use Rattle.plain_schedule.proofs.ListLaws.{newest-more, none_some, in_filter_back, in_map_back, in_flat_map, own_row}
-use Rattle.plain_schedule.proofs.Kept.{rows, bound, Stands, Inv, some_is}
+use Rattle.plain_schedule.specs.FullLeases.{bound}
+use Rattle.plain_schedule.specs.Kept.{Sound, Stands}
+use Rattle.plain_schedule.proofs.Kept.{rows, some_is}
 
 pub standing_is : (rs : List Row) (c : Connection) → Stands rs c → standing rs (Some c) ≡ Some c
 standing_is rs c st = rw st refl
@@ -37,6 +39,7 @@ pub record IsNew (s : Plain) (c : Connection) : Type 0 where
   pub row : Row
   pub there : In row (rows s)
   pub machine : row.machine ≡ c.private.src
+  pub known : is_some (rule_of s.table.rules c.private.src) ≡ true
   pub number : c.n ≡ row.n
   pub vip : row.range.vip ≡ c.public.src
   pub first : row.range.start ≤ c.public.sport
@@ -62,12 +65,15 @@ leasable_fits (rule ∷ rules) vip first high e = by ((rule.vip.0 == vip.0) && a
     by true is e rest = let within : nat_le (first + 7) rule.high ≡ true = grind arith in let top : rule.high ≤ 65535 = high.0 in grind (arith, nat_tests)
     by false is e rest = rest e
 
-pub through_new : (s : Plain) (key : FlowKey) (row : Row) (i : ℕ) → In row (rows s) → (row.machine.0 == key.src.0) ≡ true → i ≤ 7 → row.range.start + 7 ≤ 65535
-    → with_public s.table s.opened (through row key i).public ≡ None → with_private s.table s.opened key ≡ None → IsNew s (through row key i)
-through_new s key row i there machine small fits public private = record {
+pub through_new : (s : Plain) (key : FlowKey) (row : Row) (i : ℕ) → is_some (rule_of s.table.rules key.src) ≡ true
+    → In row (rows s) → (row.machine.0 == key.src.0) ≡ true → i ≤ 7 → row.range.start + 7 ≤ 65535
+    → with_public s.table s.opened (through row key i).public ≡ None → with_private s.table s.opened key ≡ None
+    → IsNew s (through row key i)
+through_new s key row i known there machine small fits public private = record {
   row = row;
   there = there;
   machine = address_is row.machine key.src (number_is _ _ machine);
+  known = known;
   number = refl;
   vip = refl;
   first = omega arith;
@@ -76,17 +82,28 @@ through_new s key row i there machine small fits public private = record {
   private = private;
 }
 
+-- a lease's range has room for its eight ports
+pub row_fits : (s : Plain) (row : Row) → Sound s → In row (rows s) → row.range.start + 7 ≤ 65535
+row_fits s row h there =
+    leasable_fits s.table.rules.vips row.range.vip row.range.start h.bounds
+    (each_in (λ (r : Row). is_leasable s.table.rules r.range ≡ true) (rows s) row h.leasable there)
+
 -- what the search for a free port finds
-pub found_new : (s : Plain) (key : FlowKey) (c : Connection) → Inv s → with_private s.table s.opened key ≡ None → first_free s.table s.opened key ≡ Some c → IsNew s c
-found_new s key c h private e =
+pub found_new : (s : Plain) (key : FlowKey) (c : Connection) → Sound s → is_some (rule_of s.table.rules key.src) ≡ true
+    → with_private s.table s.opened key ≡ None → first_free s.table s.opened key ≡ Some c → IsNew s c
+found_new s key c h known private e =
+    let ports : List Connection = flat_map (eight key) (rows_of (rows s) key.src 0) in
     let listed : (row : Row) × In row (rows_of (rows s) key.src 0) × In c (eight key row)
-    = in_flat_map (eight key) (rows_of (rows s) key.src 0) c (found_in (is_free s.table s.opened) (flat_map (eight key) (rows_of (rows s) key.src 0)) c e) in
+    = in_flat_map (eight key) (rows_of (rows s) key.src 0) c (found_in (is_free s.table s.opened) ports c e) in
     let row : Row = listed.0 in
-    let mine : In row (rows s) × ((nat_lt 0 row.n && (row.machine.0 == key.src.0)) ≡ true) = in_filter_back _ (rows s) row listed.1 in
+    let mine : In row (rows s) × ((nat_lt 0 row.n && (row.machine.0 == key.src.0)) ≡ true)
+    = in_filter_back _ (rows s) row listed.1 in
     let at : (i : ℕ) × In i places × (through row key i ≡ c) = in_map_back (through row key) places c listed.2 in
-    let free : with_public s.table s.opened c.public ≡ None = none_is _ (found_passes (is_free s.table s.opened) (flat_map (eight key) (rows_of (rows s) key.src 0)) c e) in
-    let fits : row.range.start + 7 ≤ 65535 = leasable_fits s.table.rules.vips row.range.vip row.range.start h.bounds (each_in (λ (r : Row). is_leasable s.table.rules r.range ≡ true) (rows s) row h.leasable mine.0) in
-    subst (IsNew s) at.2 (through_new s key row at.0 mine.0 (both _ _ mine.1).1 (each_in (λ (i : ℕ). i ≤ 7) places at.0 places_small at.1) fits
+    let free : with_public s.table s.opened c.public ≡ None
+    = none_is _ (found_passes (is_free s.table s.opened) ports c e) in
+    let small : at.0 ≤ 7 = each_in (λ (i : ℕ). i ≤ 7) places at.0 places_small at.1 in
+    subst (IsNew s) at.2
+    (through_new s key row at.0 known mine.0 (both _ _ mine.1).1 small (row_fits s row h mine.0)
     (subst (λ (d : Connection). with_public s.table s.opened d.public ≡ None) (sym at.2) free) private)
 
 abbrev pub with_one : Plain → Connection → Plain
@@ -112,14 +129,21 @@ newest_one s key c old free d i st = elim (in_cases s.opened (c ∷ []) d i) [
     mine : c ≡ d → cond (same_key (key c) (key d)) (Some c) (newest (λ x. same_key (key x) (key d)) s.opened) ≡ Some d
     mine e = let same : same_key (key c) (key d) ≡ true = subst (λ (x : Connection). same_key (key c) (key x) ≡ true) e (key_same (key c)) in rw (same, e) refl
 
-pub inv_opens : (s : Plain) (c : Connection) → Inv s → IsNew s c → Inv (with_one s c)
-inv_opens s c h new = record {
+pub sound_opens : (s : Plain) (c : Connection) → Sound s → IsNew s c → Sound (with_one s c)
+sound_opens s c h new = record {
   ranges = h.ranges;
   leasable = h.leasable;
   bounds = h.bounds;
   numbers = h.numbers;
   below = h.below;
-  old = each_append _ s.opened (c ∷ []) h.old ((let low : new.row.n < bound s.table = each_in (λ (r : Row). r.n < bound s.table) (rows s) new.row h.below new.there in let number = new.number in omega arith), tt);
+  old = each_append _ s.opened (c ∷ []) h.old (
+    (
+        let low : new.row.n < bound s.table
+        = each_in (λ (r : Row). r.n < bound s.table) (rows s) new.row h.below new.there in
+        let number = new.number in omega arith),
+    tt,
+  );
+  known = each_append _ s.opened (c ∷ []) h.known (new.known, tt);
   public = newest_one s (λ x. x.public) c h.public new.public;
   private = newest_one s (λ x. x.private) c h.private new.private;
   holders = λ d i st. elim (in_cases s.opened (c ∷ []) d i) [

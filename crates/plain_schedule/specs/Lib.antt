@@ -5,3 +5,5 @@ pub mod Packets
 pub mod Schedule
 pub mod Answers
 pub mod Safety
+pub mod FullLeases
+pub mod Kept

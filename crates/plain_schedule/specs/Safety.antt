@@ -8,7 +8,7 @@ use Rattle.lease_spec.specs.Table.{row_at}
 use Rattle.lease_spec.specs.Holders.{AllLeasable, OwnRanges}
 use Rattle.address_text.specs.Fields.{parts}
 use Rattle.plain_schedule.specs.declared.connections.Connection.{Connection}
-use Rattle.plain_schedule.specs.Packets.{incoming}
+use Rattle.plain_schedule.specs.Packets.{incoming, outgoing}
 use Rattle.plain_schedule.specs.Schedule.{Plain, line_step, start, without_end}
 
 -- ---- the moments of a schedule
@@ -50,8 +50,11 @@ pub record IsSafe (s : Plain) : Type 0 where
   -- no two leases are on one range, and each is on a leasable one
   pub ranges : OwnRanges s.table.leases.rows
   pub leasable : AllLeasable s.table.rules s.table.leases.rows
-  -- no two live connections share a translated end
+  -- no two live connections share a translated end, and none share a machine's end
   pub ends : (c d : Connection) → IsLive s c → IsLive s d → c.public ≡ d.public → c ≡ d
+  pub flows : (c d : Connection) → IsLive s c → IsLive s d → c.private ≡ d.private → c ≡ d
+  -- a machine's packet takes the live connection that it has
+  pub keeps : (c : Connection) → IsLive s c → outgoing s.table s.opened c.private ≡ (s.opened, Ok c)
   -- a live connection goes through a port that its machine holds
   pub holders : (c : Connection) → IsLive s c → IsThrough s c
   -- a reply goes to the machine of a live connection with its five numbers reversed, so to the one that opened it

@@ -1,8 +1,11 @@
 ghost use Rattle.std.specs.Prelude.{◌≡◌, ◌≤◌, ◌+◌, find, IfOk, OnErr};
 ghost use Rattle.wire_core.specs.declared.cause.DropCause.TheVariants.{NoLease};
+ghost use Rattle.plain_schedule.specs.FullLeases.{AreFull, end_of, plain};
+ghost use Rattle.plain_schedule.specs.Kept.{IsKept, IsSound};
 ghost use Rattle.plain_schedule.specs.Packets.{eight, first_free, incoming, is_free, opens, outgoing, takes, through, with_private, with_public};
 
 use crate::connections::{Connection, Connections};
+use crate::full_leases::{FullLeases, RemoteEnd};
 use lease_spec::Row;
 use port_leases::Table;
 use wire_core::{DropCause, FlowKey, NoMemory};
@@ -59,19 +62,47 @@ fn free_in(table: &Table, opened: &Connections, key: &FlowKey, row: &Row) -> Opt
     None
 }
 
-/// The first free port over the leases of the machine.
-fn first_free(table: &Table, opened: &Connections, key: &FlowKey) -> Option<Connection>
-    ensures { result ≡ first_free table.now opened.now key.now }
+/// The first free port over the machine's leases, those up to this number being full. Beside it the number up to which they
+/// are full after all.
+fn first_free(
+    table: &Table,
+    opened: &Connections,
+    key: &FlowKey,
+    full: u64,
+) -> (Option<Connection>, u64)
+    requires sound { IsSound (plain table.now opened.now) }
+    requires full { AreFull (plain table.now opened.now) (end_of key.now) full }
+    ensures found { result.0 ≡ first_free table.now opened.now key.now }
+    ensures full { AreFull (plain table.now opened.now) (end_of key.now) result.1 }
 {
-    let mut above = 0;
+    let mut above = full;
     while let Some(row) = table.next_row_of(key.src, above) {
         let found = free_in(table, opened, key, &row);
         if found.is_some() {
-            return found;
+            return (found, above);
         }
         above = row.n;
     }
-    None
+    (None, above)
+}
+
+/// The first free port over the machine's leases. Full leases that it comes by are known from then on, so that each costs
+/// one look in all.
+fn find_port(
+    table: &Table,
+    opened: &Connections,
+    full: &mut FullLeases,
+    key: &FlowKey,
+) -> Result<Option<Connection>, NoMemory>
+    requires { IsKept (plain table.now opened.now) full.old }
+    ensures found { IfOk result (λ found. found ≡ first_free table.now opened.now key.now) }
+    ensures kept { IsKept (plain table.now opened.now) full.new }
+{
+    let end = RemoteEnd::of(key);
+    let known = full.up_to(end);
+    let (found, above) = first_free(table, opened, key, known);
+    full.set(end, above)?;
+    Ok(found)
 }
 
 /// Opens the connection that was found.
@@ -95,10 +126,13 @@ fn open_found(
 pub fn outgoing(
     table: &Table,
     opened: &mut Connections,
+    full: &mut FullLeases,
     key: &FlowKey,
 ) -> Result<Result<Connection, DropCause>, NoMemory>
+    requires { IsKept (plain table.now opened.old) full.old }
     ensures ok { IfOk result (λ taken. (opened.new, taken) ≡ outgoing table.now opened.old key.now) }
     ensures err { OnErr result (opened.new ≡ opened.old) }
+    ensures kept { IsKept (plain table.now opened.new) full.new }
 {
     if table.machine_rule(key.src).is_none() {
         return Ok(Err(DropCause::NotMine));
@@ -106,7 +140,7 @@ pub fn outgoing(
     match with_private(table, opened, key) {
         Some(connection) => Ok(Ok(connection)),
         None => {
-            let found = first_free(table, opened, key);
+            let found = find_port(table, opened, full, key)?;
             open_found(opened, found)
         }
     }

@@ -20,6 +20,7 @@
 mod cause;
 mod choice;
 mod connections;
+mod full_leases;
 mod laws;
 mod line;
 mod packets;
@@ -27,6 +28,7 @@ mod replay;
 mod state;
 
 pub use connections::{Connection, Connections};
+pub use full_leases::{FullLeases, RemoteEnd};
 pub use laws::always_safe;
 pub use line::Line;
 pub use replay::{PlainFault, plain_lines};

@@ -2,11 +2,14 @@ ghost use Rattle.std.specs.Prelude.{◌≡◌, ◌≤◌, ◌++◌, None, IfOk, 
 ghost use Rattle.address_text.specs.Addresses.{address_text};
 ghost use Rattle.packet_spec.specs.Headers.{ttl_of};
 ghost use Rattle.packet_spec.specs.Packets.{packet_fault, read_packet};
+ghost use Rattle.plain_schedule.specs.FullLeases.{plain};
+ghost use Rattle.plain_schedule.specs.Kept.{IsKept};
 ghost use Rattle.plain_schedule.specs.Packets.{drop_text, machine_text, public_text, replied, sent};
 
 use crate::cause::{cause_name, packet_cause};
 use crate::choice::{incoming, outgoing};
 use crate::connections::{Connection, Connections};
+use crate::full_leases::FullLeases;
 use address_text::write_address;
 use hex::encode;
 use packet_edit::{Packet, translate_destination, translate_source};
@@ -79,17 +82,21 @@ pub fn send(
     alloc: Global,
     table: &Table,
     opened: &mut Connections,
+    full: &mut FullLeases,
     out: &mut String,
     bytes: &mut [u8],
 ) -> Result<(), NoMemory>
+    requires { IsKept (plain table.now opened.old) full.old }
     ensures opened { OnOk result (opened.new ≡ (sent table.now opened.old (read_packet bytes.old)).0) }
-    ensures text { OnOk result (string_bytes out.new ≡ string_bytes out.old ++ (sent table.now opened.old (read_packet bytes.old)).1) }
+    ensures text { OnOk result (string_bytes out.new
+        ≡ string_bytes out.old ++ (sent table.now opened.old (read_packet bytes.old)).1) }
+    ensures kept { IsKept (plain table.now opened.new) full.new }
 {
     let (key, len) = match Packet::read(bytes) {
         Err(fault) => return print_drop(out, packet_cause(fault)),
         Ok(p) => (p.key(), p.len()),
     };
-    let taken = outgoing(table, opened, &key)?;
+    let taken = outgoing(table, opened, full, &key)?;
     print_public(alloc, out, &mut bytes[..len], taken)
 }
 

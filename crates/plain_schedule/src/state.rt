@@ -4,9 +4,11 @@ ghost use Rattle.lease_spec.specs.Table.{last_of, row_at, rule_of};
 ghost use Rattle.port_leases.specs.TableState.{apply_slot, fresh};
 ghost use Rattle.wire_core.specs.Members.{Each};
 ghost use Rattle.wire_core.specs.Views.{IsWritable, command_of};
+ghost use Rattle.plain_schedule.specs.Kept.{Keeps};
 ghost use Rattle.plain_schedule.specs.Schedule.{ask_by, asked, effect_text, onto, named, returned, seq_after, start, step, table_onto};
 
 use crate::connections::Connections;
+use crate::full_leases::FullLeases;
 use crate::line::Line;
 use crate::packets::{answer, send};
 use port_leases::{Effect, EffectList, Table};
@@ -23,17 +25,20 @@ pub struct PlainState {
     table: Table,
     vips: usize,
     opened: Connections,
+    full: FullLeases,
 }
 
 impl Model for PlainState {
     ghost use Rattle.std.specs.Prelude.{◌≡◌, length};
+    ghost use Rattle.plain_schedule.specs.FullLeases.{plain};
+    ghost use Rattle.plain_schedule.specs.Kept.{IsKept};
     ghost use Rattle.plain_schedule.specs.Schedule.{Plain};
 
     ghost Value = { Plain };
 
     ghost view = { λ s. record { table = s.table; opened = s.opened } };
 
-    ghost invariant = { λ s. s.vips ≡ length s.table.rules.vips };
+    ghost invariant = { λ s. (s.vips ≡ length s.table.rules.vips) × IsKept (plain s.table s.opened) s.full };
 }
 
 /// Applies one slot of these commands.
@@ -48,6 +53,7 @@ fn apply_commands(
     requires writable { Each IsWritable commands.now }
     ensures ok { IfOk result (λ effects. (table.new, effects) ≡ apply_slot table.old (map command_of commands.now)) }
     ensures rules { table.new.rules ≡ table.old.rules }
+    ensures kept { Keeps table.old table.new }
 {
     let value = OwnedValue::new(alloc, commands)?;
     let slot = table.slots();
@@ -100,6 +106,7 @@ fn ask_slot(
     ensures after { OnOk result (table.new ≡ (asked table.old machine).0) }
     ensures text { OnOk result (string_bytes out.new ≡ string_bytes out.old ++ (asked table.old machine).1) }
     ensures rules { table.new.rules ≡ table.old.rules }
+    ensures kept { Keeps table.old table.new }
 {
     let seq = next_seq(table, machine);
     let command = Command::Reserve {
@@ -125,6 +132,7 @@ fn ask(
         ≡ (if good then Some (table.new, string_bytes out.new) else None)) }
     ensures slots { OnOk result (table.new.slots ≤ table.old.slots + 1) }
     ensures vips { table.new.rules.vips ≡ table.old.rules.vips }
+    ensures kept { Keeps table.old table.new }
 {
     match table.machine_rule(machine) {
         None => {
@@ -148,8 +156,10 @@ fn ask(
 fn give_back(alloc: Global, table: &mut Table, out: &mut String, n: u64) -> Result<(), NoMemory>
     requires { table.old.slots < 2 ^ 58 }
     ensures after { OnOk result (table.new ≡ (returned table.old n (row_at table.old.leases.rows n)).0) }
-    ensures text { OnOk result (string_bytes out.new ≡ string_bytes out.old ++ (returned table.old n (row_at table.old.leases.rows n)).1) }
+    ensures text { OnOk result (string_bytes out.new
+        ≡ string_bytes out.old ++ (returned table.old n (row_at table.old.leases.rows n)).1) }
     ensures rules { table.new.rules ≡ table.old.rules }
+    ensures kept { Keeps table.old table.new }
 {
     match table.row(n) {
         None => writeln!(out, "unknown {n}"),
@@ -178,6 +188,7 @@ impl PlainState {
             table: Table::new(alloc, rules)?,
             vips: 0,
             opened: Connections::new(alloc),
+            full: FullLeases::new(alloc),
         })
     }
 
@@ -200,6 +211,61 @@ impl PlainState {
         Ok(true)
     }
 
+    /// A machine asks for a range of a VIP. False for a bad line.
+    fn ask(
+        &mut self,
+        alloc: Global,
+        out: &mut String,
+        vip: Ip4,
+        machine: Ip4,
+    ) -> Result<bool, NoMemory>
+        requires { self.old.table.slots < 2 ^ 58 }
+        ensures step { IfOk result (λ good. onto (string_bytes out.old) (step self.old (Some (Line.Ask vip machine)))
+            ≡ (if good then Some (self.new, string_bytes out.new) else None)) }
+        ensures slots { OnOk result (self.new.table.slots ≤ self.old.table.slots + 1) }
+    {
+        if !self.table.has_vip(vip) || self.table.has_vip(machine) {
+            return Ok(false);
+        }
+        ask(alloc, &mut self.table, out, vip, machine)
+    }
+
+    /// Gives a lease back.
+    fn give_back(&mut self, alloc: Global, out: &mut String, n: u64) -> Result<(), NoMemory>
+        requires { self.old.table.slots < 2 ^ 58 }
+        ensures step { OnOk result (onto (string_bytes out.old) (step self.old (Some (Line.Return n)))
+            ≡ Some (self.new, string_bytes out.new)) }
+        ensures slots { OnOk result (self.new.table.slots ≤ self.old.table.slots + 1) }
+    {
+        give_back(alloc, &mut self.table, out, n)
+    }
+
+    /// A machine sends a packet.
+    fn send(&mut self, alloc: Global, out: &mut String, bytes: Items<u8>) -> Result<(), NoMemory>
+        ensures step { OnOk result (onto (string_bytes out.old) (step self.old (Some (Line.Packet bytes)))
+            ≡ Some (self.new, string_bytes out.new)) }
+        ensures slots { OnOk result (self.new.table.slots ≡ self.old.table.slots) }
+    {
+        let mut bytes = bytes.into_vec();
+        send(
+            alloc,
+            &self.table,
+            &mut self.opened,
+            &mut self.full,
+            out,
+            &mut bytes,
+        )
+    }
+
+    /// A remote end answers with a packet.
+    fn answer(&self, alloc: Global, out: &mut String, bytes: Items<u8>) -> Result<(), NoMemory>
+        ensures { OnOk result (onto (string_bytes out.old) (step self.now (Some (Line.Reply bytes)))
+            ≡ Some (self.now, string_bytes out.new)) }
+    {
+        let mut bytes = bytes.into_vec();
+        answer(alloc, &self.table, &self.opened, out, &mut bytes)
+    }
+
     /// Does what a line says, and prints what comes of it. False for a bad line, which does and prints nothing.
     pub fn step(
         &mut self,
@@ -213,29 +279,14 @@ impl PlainState {
         ensures slots { OnOk result (self.new.table.slots ≤ self.old.table.slots + 1) }
     {
         match line {
-            None => Ok(false),
-            Some(Line::Skip) => Ok(true),
-            Some(Line::Vip { vip, low, high }) => self.add_vip(alloc, vip, low, high),
-            Some(Line::Ask { vip, machine }) => {
-                if !self.table.has_vip(vip) || self.table.has_vip(machine) {
-                    return Ok(false);
-                }
-                ask(alloc, &mut self.table, out, vip, machine)
-            }
-            Some(Line::Return { n }) => {
-                give_back(alloc, &mut self.table, out, n)?;
-                Ok(true)
-            }
-            Some(Line::Packet { bytes }) => {
-                let mut bytes = bytes.into_vec();
-                send(alloc, &self.table, &mut self.opened, out, &mut bytes)?;
-                Ok(true)
-            }
-            Some(Line::Reply { bytes }) => {
-                let mut bytes = bytes.into_vec();
-                answer(alloc, &self.table, &self.opened, out, &mut bytes)?;
-                Ok(true)
-            }
+            None => return Ok(false),
+            Some(Line::Skip) => {}
+            Some(Line::Vip { vip, low, high }) => return self.add_vip(alloc, vip, low, high),
+            Some(Line::Ask { vip, machine }) => return self.ask(alloc, out, vip, machine),
+            Some(Line::Return { n }) => self.give_back(alloc, out, n)?,
+            Some(Line::Packet { bytes }) => self.send(alloc, out, bytes)?,
+            Some(Line::Reply { bytes }) => self.answer(alloc, out, bytes)?,
         }
+        Ok(true)
     }
 }
