@@ -1,5 +1,5 @@
-ghost use Rattle.std.specs.Prelude.{◌≡◌, ◌<◌, ◌^◌, option_map, slice_get, IfOk, OnOk, OnErr};
-ghost use Rattle.paxos_spec.specs.Acceptor.{accept_entry, accept_step, acted, chosen_entry, chosen_step, follow, is_late, new_acceptor, prepare_entry, prepare_step, reach, stands};
+ghost use Rattle.std.specs.Prelude.{◌≡◌, ◌<◌, ◌^◌, nat_le, option_map, slice_get, IfOk, OnOk, OnErr};
+ghost use Rattle.paxos_spec.specs.Acceptor.{accept_entry, accept_step, acted, chosen_entry, chosen_step, follow, is_late, most_slots, new_acceptor, prepare_entry, prepare_step, reach, stands};
 ghost use Rattle.wire_core.specs.declared.entry.Entry.TheVariants as entry;
 ghost use Rattle.paxos_acceptor.specs.Seen.{pair_of, standing};
 ghost use Rattle.paxos_spec.specs.Votes.{vote_seen};
@@ -97,7 +97,7 @@ impl Acceptor {
                 self.promise = self.promise.max(*ballot);
             }
             Entry::Learn { ballot, value } => {
-                if self.length() < MOST_SLOTS {
+                if !self.is_full() {
                     self.learn(*ballot, value)?;
                 }
             }
@@ -207,6 +207,62 @@ impl Acceptor {
         self.log.len() as u64
     }
 
+    /// Whether the log has no room: it has 2^58 slots.
+    pub fn is_full(&self) -> bool
+        ensures { result ≡ nat_le most_slots (reach self.now.state) }
+    {
+        MOST_SLOTS <= self.length()
+    }
+
+    /// What [`Acceptor::on_prepare`] would answer.
+    pub fn prepare_step(&self, ballot: u64) -> PrepareStep
+        ensures { result ≡ prepare_step self.now.state ballot }
+    {
+        match ballot.cmp(&self.promise) {
+            Ordering::Less => PrepareStep::Refuse {
+                promised: self.promise,
+            },
+            Ordering::Equal => PrepareStep::Again,
+            Ordering::Greater => PrepareStep::Promise,
+        }
+    }
+
+    /// What [`Acceptor::on_accept`] would answer.
+    pub fn accept_step(&self, ballot: u64, slot: u64, value: &Value) -> AcceptStep
+        ensures { result ≡ accept_step self.now.state ballot slot value.now }
+    {
+        if ballot < self.promise {
+            AcceptStep::Refuse {
+                promised: self.promise,
+            }
+        } else if self.is_late(slot) {
+            AcceptStep::Late
+        } else if self.length() < slot {
+            AcceptStep::Behind {
+                length: self.length(),
+            }
+        } else if is_standing(&self.vote, ballot, value) {
+            AcceptStep::Again
+        } else {
+            AcceptStep::Voted
+        }
+    }
+
+    /// What [`Acceptor::on_chosen`] would answer.
+    pub fn chosen_step(&self, slot: u64) -> ChosenStep
+        ensures { result ≡ chosen_step self.now.state slot }
+    {
+        if self.is_late(slot) {
+            ChosenStep::Late
+        } else if self.length() < slot {
+            ChosenStep::Behind {
+                length: self.length(),
+            }
+        } else {
+            ChosenStep::Learned
+        }
+    }
+
     /// The ballot and value of the vote. `None` exactly where no vote stands.
     pub fn vote(&self) -> Option<(u64, Value<'_>)>
         ensures { result ≡ option_map pair_of (standing self.now.state.vote) }
@@ -235,56 +291,7 @@ impl Acceptor {
     fn is_late(&self, slot: u64) -> bool
         ensures { result ≡ is_late self.now.state slot }
     {
-        slot < self.length() || MOST_SLOTS <= self.length()
-    }
-
-    /// What is answered to a Prepare.
-    fn prepare_step(&self, ballot: u64) -> PrepareStep
-        ensures { result ≡ prepare_step self.now.state ballot }
-    {
-        match ballot.cmp(&self.promise) {
-            Ordering::Less => PrepareStep::Refuse {
-                promised: self.promise,
-            },
-            Ordering::Equal => PrepareStep::Again,
-            Ordering::Greater => PrepareStep::Promise,
-        }
-    }
-
-    /// What is answered to an Accept.
-    fn accept_step(&self, ballot: u64, slot: u64, value: &Value) -> AcceptStep
-        ensures { result ≡ accept_step self.now.state ballot slot value.now }
-    {
-        if ballot < self.promise {
-            AcceptStep::Refuse {
-                promised: self.promise,
-            }
-        } else if self.is_late(slot) {
-            AcceptStep::Late
-        } else if self.length() < slot {
-            AcceptStep::Behind {
-                length: self.length(),
-            }
-        } else if is_standing(&self.vote, ballot, value) {
-            AcceptStep::Again
-        } else {
-            AcceptStep::Voted
-        }
-    }
-
-    /// What is answered to a Chosen.
-    fn chosen_step(&self, slot: u64) -> ChosenStep
-        ensures { result ≡ chosen_step self.now.state slot }
-    {
-        if self.is_late(slot) {
-            ChosenStep::Late
-        } else if self.length() < slot {
-            ChosenStep::Behind {
-                length: self.length(),
-            }
-        } else {
-            ChosenStep::Learned
-        }
+        slot < self.length() || self.is_full()
     }
 
     /// Adds what was learned at the log's end. Without memory nothing changed.

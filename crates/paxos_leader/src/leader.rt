@@ -258,6 +258,15 @@ impl Leader {
         self.restart(Stage::Follower, self.ballot);
     }
 
+    /// A Follower of the same ballot, as [`Leader::step_down`] leaves it.
+    pub fn stepped_down(&self) -> Leader
+        ensures { result ≡ stepped_down self.now }
+    {
+        let mut leader = Leader::new(self.alloc);
+        leader.ballot = self.ballot;
+        leader
+    }
+
     /// What an Accepted comes to.
     fn accepted_step(&self, from: u8, ballot: u64, slot: u64) -> Counted
         requires { from < 5 }

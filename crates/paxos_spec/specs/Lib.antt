@@ -3,4 +3,5 @@ pub mod Five
 pub mod Acceptor
 pub mod Leader
 pub mod Replica
+pub mod Events
 pub mod Agreement

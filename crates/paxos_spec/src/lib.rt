@@ -7,6 +7,7 @@
 //! | what an acceptor keeps and decides | `Acceptor` |
 //! | what a leader keeps and decides | `Leader` |
 //! | what a replica does with each message | `Replica` |
+//! | a replica as one value, and which events count | `Events` |
 //! | chosen, learned, and what is claimed of them | `Agreement` |
 //!
 //! The crates above bind code to these words: an acceptor's calls to `Acceptor`, a leader's to `Leader`, and a world of
