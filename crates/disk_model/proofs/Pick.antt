@@ -17,8 +17,10 @@ length-first_bytes byte (suc n) = length_push (first_bytes byte n) (byte n) ∙ 
 pub get_or-first_bytes : (byte : ℕ → ℕ) (n k : ℕ) → k < n → get_or (first_bytes byte n) k 0 ≡ byte k
 get_or-first_bytes byte zero k lt = absurd (omega (arith, lt))
 get_or-first_bytes byte (suc n) k lt = elim (cases_lt k n) [
-  | inl before ↦ get_or_append_left (first_bytes byte n) (byte n ∷ []) 0 k (omega (arith, before, length-first_bytes byte n)) ∙ get_or-first_bytes byte n k before
-  | inr last ↦ get_or_push (first_bytes byte n) (byte n) 0 k (omega (arith, lt, last, length-first_bytes byte n)) ∙ ap byte {x = n} {y = k} (omega (arith, lt, last))
+  | inl before ↦ get_or_append_left (first_bytes byte n) (byte n ∷ []) 0 k
+      (omega (arith, before, length-first_bytes byte n)) ∙ get_or-first_bytes byte n k before
+  | inr last ↦ get_or_push (first_bytes byte n) (byte n) 0 k (omega (arith, lt, last, length-first_bytes byte n))
+      ∙ ap byte {x = n} {y = k} (omega (arith, lt, last))
 ]
 
 module _ (f : FileState) (pick : List ℕ) where
@@ -33,14 +35,19 @@ module _ (f : FileState) (pick : List ℕ) where
     no_shorter = omega (arith, ordered, length-picked);
     no_longer = omega (arith, length-picked);
     stays = λ k lt lt' synced. get_or-picked k (omega (arith, lt', length-picked))
-        ∙ cond-false (is_free f k) (get_or pick k 0) (get_or f.bytes k 0) (or_from (is_unsynced f k) (nat_le (length f.bytes) k) synced (lt-leb (length f.bytes) k lt));
+        ∙ cond-false (is_free f k) (get_or pick k 0) (get_or f.bytes k 0)
+        (or_from (is_unsynced f k) (nat_le (length f.bytes) k) synced (lt-leb (length f.bytes) k lt));
   }
 
   -- a file over whose free places the pick was laid, cut to the picked length, is what is picked
-  pub picked_from_laid : (buffer new : List ℕ) (len : ℕ) → f.bytes ≡ take len buffer → len ≤ length buffer → f.greatest ≡ length buffer
-      → IsLaid (λ k. list_any (is_in k) f.unsynced || nat_le (min len (picked_length f pick)) k) pick (take (picked_length f pick) buffer) new → new ≡ picked f pick
-  picked_from_laid buffer new len is le whole laid = same_number_lists new (picked f pick) (new_long ∙ sym length-picked)
-      (λ k lt. all.byte k (omega (arith, lt, new_long, front_long)) ∙ chosen k (omega (arith, lt, new_long)) ∙ sym (get_or-picked k (omega (arith, lt, new_long))))
+  pub picked_from_laid : (buffer new : List ℕ) (len : ℕ) → f.bytes ≡ take len buffer → len ≤ length buffer
+      → f.greatest ≡ length buffer
+      → IsLaid (λ k. list_any (is_in k) f.unsynced || nat_le (min len (picked_length f pick)) k) pick
+      (take (picked_length f pick) buffer) new → new ≡ picked f pick
+  picked_from_laid buffer new len is le whole laid =
+      same_number_lists new (picked f pick) (new_long ∙ sym length-picked)
+      (λ k lt. all.byte k (omega (arith, lt, new_long, front_long)) ∙ chosen k (omega (arith, lt, new_long))
+      ∙ sym (get_or-picked k (omega (arith, lt, new_long))))
     where
       file_long : length f.bytes ≡ len
       file_long = ap length is ∙ length-take-le len buffer le
@@ -50,23 +57,35 @@ module _ (f : FileState) (pick : List ℕ) where
 
       tail : (k : ℕ) → k < picked_length f pick → nat_le (length f.bytes) k ≡ nat_le (min len (picked_length f pick)) k
       tail k lt = elim (cases_lt k len) [
-        | inl before ↦ lt-leb (length f.bytes) k (omega (arith, before, file_long)) ∙ sym (lt-leb (min len (picked_length f pick)) k (omega (arith, before, lt)))
-        | inr after ↦ le-leb (length f.bytes) k (omega (arith, after, file_long)) ∙ sym (le-leb (min len (picked_length f pick)) k (omega (arith, after)))
+        | inl before ↦ lt-leb (length f.bytes) k (omega (arith, before, file_long))
+            ∙ sym (lt-leb (min len (picked_length f pick)) k (omega (arith, before, lt)))
+        | inr after ↦ le-leb (length f.bytes) k (omega (arith, after, file_long))
+            ∙ sym (le-leb (min len (picked_length f pick)) k (omega (arith, after)))
       ]
 
       all : IsLaid (λ k. is_free f k) pick (take (picked_length f pick) buffer) new
-      all = laid_same (λ k. list_any (is_in k) f.unsynced || nat_le (min len (picked_length f pick)) k) (λ k. is_free f k) pick (take (picked_length f pick) buffer) new
+      all = laid_same (λ k. list_any (is_in k) f.unsynced || nat_le (min len (picked_length f pick)) k)
+          (λ k. is_free f k) pick (take (picked_length f pick) buffer) new
           (λ k lt. ap (λ b. is_unsynced f k || b) (tail k (omega (arith, lt, front_long)))) laid
 
       new_long : length new ≡ picked_length f pick
       new_long = all.room ∙ front_long
 
-      chosen : (k : ℕ) → k < picked_length f pick → (if is_free f k then get_or pick k 0 else get_or (take (picked_length f pick) buffer) k 0) ≡ picked_byte f pick k
+      chosen : (k : ℕ) → k < picked_length f pick
+          → (if is_free f k then get_or pick k 0 else get_or (take (picked_length f pick) buffer) k 0)
+          ≡ picked_byte f pick k
       chosen k lt = elim (cases_Bool (is_free f k)) [
         | inl free ↦ cond-true (is_free f k) _ _ free ∙ sym (cond-true (is_free f k) _ _ free)
         | inr bound ↦ cond-false (is_free f k) _ _ bound
             ∙ get_or-take (picked_length f pick) buffer k 0 lt
-            ∙ sym (ap (λ (l : List ℕ). get_or l k 0) is ∙ get_or-take len buffer k 0 (omega (arith, leb-false (length f.bytes) k (or_parts (is_unsynced f k) (nat_le (length f.bytes) k) bound).1, file_long)))
+            ∙ sym (ap (λ (l : List ℕ). get_or l k 0) is
+            ∙ get_or-take len buffer k 0
+            (omega (
+              arith,
+              leb-false (length f.bytes) k
+                  (or_parts (is_unsynced f k) (nat_le (length f.bytes) k) bound).1,
+              file_long,
+            )))
             ∙ sym (cond-false (is_free f k) _ _ bound)
       ]
 

@@ -1,23 +1,22 @@
 -- The file now, and after each earlier call, from what the later calls replaced.
-use Rattle.std.specs.Prelude.{ℕ, ◌+◌, ◌-◌, List, [], ◌∷◌, ◌++◌, length, take, drop, reverse}
-use Rattle.std.proofs.Common.{◌≡◌, ◌≤◌, refl, sym, subst}
-use Rattle.std.proofs.lemmas.List.{length-take-le}
-use Rattle.outside_io.specs.Disk.{FileState, History, IsImage}
+use Rattle.std.specs.Prelude.{ℕ, ◌≤◌, ◌+◌, ◌-◌, List, [], ◌∷◌, ◌++◌, length, take, drop, reverse}
+use Rattle.outside_io.specs.Disk.{FileState, History}
 use Rattle.outside_io.specs.declared.disk.Span.{Span}
 use Rattle.disk_model.specs.declared.state.Replaced.{Replaced}
 use Rattle.disk_model.specs.declared.state.Replaced.TheVariants.{Bytes, Ranges}
 use Rattle.disk_model.specs.declared.state.Undo.{Undo}
-use Rattle.disk_model.specs.declared.state.MemDisk.{MemDisk}
+use Rattle.disk_model.specs.declared.state.MemDisk.TheInside.{Inside}
+use Rattle.disk_model.specs.Disks.{DiskState}
 
 -- the bytes before the call that left these
 abbrev pub bytes_before : Replaced → List ℕ → List ℕ
-bytes_before (Bytes at count old) bytes = take at bytes ++ old.items ++ drop (at + count) bytes
+bytes_before (Bytes at count old) bytes = take at bytes ++ old ++ drop (at + count) bytes
 bytes_before (Ranges unsynced) bytes = bytes
 
 -- the written ranges before the call that left these: it added one, or it was a sync and took them all
 abbrev pub ranges_before : Replaced → List Span → List Span
 ranges_before (Bytes at count old) ranges = take (length ranges - 1) ranges
-ranges_before (Ranges unsynced) ranges = unsynced.items
+ranges_before (Ranges unsynced) ranges = unsynced
 
 -- the file before the call that left this
 abbrev pub before : Undo → FileState → FileState
@@ -34,7 +33,7 @@ pasts [] f = []
 pasts (u ∷ us) f = before u f ∷ pasts us (before u f)
 
 -- the file now
-abbrev pub state_of : MemDisk → FileState
+abbrev pub state_of : Inside → FileState
 state_of d = record {
   bytes = take d.len d.buffer.items;
   unsynced = d.unsynced.items;
@@ -42,17 +41,14 @@ state_of d = record {
   greatest = length d.buffer.items;
 }
 
--- the file now and after each earlier call
-abbrev pub history_of : MemDisk → History
-history_of d = record { now = state_of d; past = pasts (reverse d.undo.items) (state_of d) }
-
--- what a read gives is one of the images
-pub reads_an_image : (d : MemDisk) → IsImage (state_of d) (take d.len d.buffer.items)
-reads_an_image d = record {
-  no_shorter = subst (λ n. d.least ≤ n) (sym long) d.low;
-  no_longer = subst (λ n. n ≤ length d.buffer.items) (sym long) d.high;
-  stays = λ i lt lt' kept. refl;
+-- the file now and after each earlier call, and the faults
+abbrev pub disk_of : Inside → DiskState
+disk_of d = record {
+  history = record { now = state_of d; past = pasts (reverse d.undo.items) (state_of d) };
+  faults = d.faults;
 }
-  where
-    long : length (take d.len d.buffer.items) ≡ d.len
-    long = length-take-le d.len d.buffer.items d.high
+
+-- The file is the front of the buffer, and no shorter than the least length.
+pub record IsWhole (d : Inside) : Type 0 where
+  pub low : d.least ≤ d.len
+  pub high : d.len ≤ length d.buffer.items

@@ -2,7 +2,6 @@
 ghost use Rattle.std.specs.Prelude.{◌≡◌, ◌≤◌, ◌||◌, [], length, get_or, nat_le};
 ghost use Rattle.std.specs.List.{list_any};
 ghost use Rattle.outside_io.specs.Disk.{kept, IsImage, is_in};
-ghost use Rattle.disk_model.specs.States.{state_of, history_of};
 ghost use Rattle.disk_model.specs.Picked.{picked};
 ghost use Rattle.disk_model.specs.Overlays.{IsLaid, IsOverlaid, AreOverlaid};
 
@@ -53,8 +52,8 @@ impl MemDisk {
     /// elsewhere they are the file's. Nothing is pending then, nothing is known of before, and no fault is counted.
     /// Takes no memory, and time in the bytes written since the last sync.
     pub fn crash(self, pick: &[u8]) -> MemDisk
-        ensures left { history_of result ≡ record { now = kept (picked (state_of self) pick.now); past = [] } }
-        ensures image { IsImage (state_of self) (picked (state_of self) pick.now) }
+        ensures left { result.history ≡ record { now = kept (picked self.history.now pick.now); past = [] } }
+        ensures image { IsImage self.history.now (picked self.history.now pick.now) }
         ensures faults { result.faults ≡ 0 }
     {
         let MemDisk {

@@ -1,11 +1,13 @@
-ghost use Rattle.std.specs.Prelude.{◌≡◌, ◌≤◌, ◌<◌, ◌-◌, Some, length, OnOk, OnErr, IsErr};
-ghost use Rattle.outside_io.specs.Disk.{wrote, shortened, HasLength, Reads, Does, Syncs, Within};
+ghost use Rattle.std.specs.Prelude.{◌≡◌, ◌≤◌, ◌<◌, ◌-◌, Some, length, OnOk, OnErr, IfOk, IsErr};
+ghost use Rattle.outside_io.specs.Disk.{ReadsAnImage, wrote, shortened, HasLength, Reads, Does, Syncs, Within};
 ghost use Rattle.outside_io.specs.Faults.{Rose, HasCause};
-ghost use Rattle.disk_model.specs.States.{history_of, reads_an_image};
 ghost use Rattle.disk_model.specs.Fuses.{Passes};
 
 use crate::state::MemDisk;
 use outside_io::{Disk, Failed};
+use std::alloc::Global;
+use std::marker::Model;
+use wire_core::NoMemory;
 
 /// A disk that passes so many calls to its disk, and then fails every call.
 #[derive(Drop)]
@@ -13,6 +15,14 @@ pub struct Fuse {
     disk: MemDisk,
     left: u64,
     faults: u64,
+}
+
+impl Model for Fuse {
+    ghost use Rattle.disk_model.specs.Disks.{FuseState};
+
+    ghost Value = { FuseState };
+
+    ghost view = { λ fuse. record { disk = fuse.disk; left = fuse.left; faults = fuse.faults } };
 }
 
 impl Fuse {
@@ -33,6 +43,24 @@ impl Fuse {
     {
         let Fuse { disk, .. } = self;
         disk
+    }
+
+    /// Another fuse with the same calls left and faults, over a copy of the disk.
+    pub fn copy(&self, alloc: Global) -> Result<Fuse, NoMemory>
+        ensures { IfOk result (λ copy. copy ≡ self.now) }
+    {
+        Ok(Fuse {
+            disk: self.disk.copy(alloc)?,
+            left: self.left,
+            faults: self.faults,
+        })
+    }
+
+    /// How often a call has failed.
+    pub fn faults(&self) -> u64
+        ensures { result ≡ self.now.faults }
+    {
+        self.faults
     }
 
     // Spends one of the calls that pass.
@@ -65,16 +93,14 @@ impl Fuse {
 }
 
 impl Disk for Fuse {
-    ghost history = { λ fuse. Some (history_of fuse.disk) };
+    ghost history = { λ fuse. Some fuse.disk.history };
 
     ghost faults = { λ fuse. fuse.faults };
 
-    ghost reads_an_image = { λ fuse. reads_an_image fuse.disk };
-
     fn len(&mut self) -> Result<u64, Failed>
         ensures passes { Passes self.old self.new result }
-        ensures length { HasLength (Some (history_of self.old.disk)) result }
-        ensures same { history_of self.new.disk ≡ history_of self.old.disk }
+        ensures length { HasLength (Some self.old.disk.history) result }
+        ensures same { self.new.disk.history ≡ self.old.disk.history }
         ensures cause { HasCause self.old.faults self.new.faults result }
     {
         self.spend()?;
@@ -86,9 +112,10 @@ impl Disk for Fuse {
 
     fn read(&mut self, at: u64, buf: &mut [u8]) -> Result<usize, Failed>
         ensures passes { Passes self.old self.new result }
-        ensures bytes { Reads (Some (history_of self.old.disk)) at buf.old buf.new result }
+        ensures bytes { Reads (Some self.old.disk.history) at buf.old buf.new result }
+        ensures image { OnOk result (ReadsAnImage (Some self.old.disk.history)) }
         ensures room { length buf.new ≡ length buf.old }
-        ensures same { history_of self.new.disk ≡ history_of self.old.disk }
+        ensures same { self.new.disk.history ≡ self.old.disk.history }
         ensures cause { HasCause self.old.faults self.new.faults result }
     {
         self.spend()?;
@@ -99,11 +126,11 @@ impl Disk for Fuse {
     }
 
     fn write_at(&mut self, at: u64, bytes: &[u8]) -> Result<(), Failed>
-        requires { Within (Some (history_of self.old.disk)) at }
+        requires { Within (Some self.old.disk.history) at }
         ensures passes { Passes self.old self.new result }
-        ensures written { Does (wrote at bytes.now) (Some (history_of self.old.disk))
-            (Some (history_of self.new.disk)) result }
-        ensures same { OnErr result (history_of self.new.disk ≡ history_of self.old.disk) }
+        ensures written { Does (wrote at bytes.now) (Some self.old.disk.history)
+            (Some self.new.disk.history) result }
+        ensures same { OnErr result (self.new.disk.history ≡ self.old.disk.history) }
         ensures cause { HasCause self.old.faults self.new.faults result }
     {
         self.spend()?;
@@ -114,10 +141,10 @@ impl Disk for Fuse {
     }
 
     fn cut(&mut self, len: u64) -> Result<(), Failed>
-        requires { Within (Some (history_of self.old.disk)) len }
+        requires { Within (Some self.old.disk.history) len }
         ensures passes { Passes self.old self.new result }
-        ensures cut { Does (shortened len) (Some (history_of self.old.disk)) (Some (history_of self.new.disk)) result }
-        ensures same { OnErr result (history_of self.new.disk ≡ history_of self.old.disk) }
+        ensures cut { Does (shortened len) (Some self.old.disk.history) (Some self.new.disk.history) result }
+        ensures same { OnErr result (self.new.disk.history ≡ self.old.disk.history) }
         ensures cause { HasCause self.old.faults self.new.faults result }
     {
         self.spend()?;
@@ -129,7 +156,7 @@ impl Disk for Fuse {
 
     fn sync(&mut self) -> Result<(), Failed>
         ensures passes { Passes self.old self.new result }
-        ensures kept { Syncs (Some (history_of self.old.disk)) (Some (history_of self.new.disk)) result }
+        ensures kept { Syncs (Some self.old.disk.history) (Some self.new.disk.history) result }
         ensures cause { HasCause self.old.faults self.new.faults result }
     {
         self.spend()?;

@@ -8,6 +8,7 @@
 //! A call of a [`MemDisk`] fails only for want of memory, which is counted as a fault, and leaves the disk as it was.
 #![tactic(auto)]
 
+mod copy;
 mod crash;
 mod fuse;
 mod image;

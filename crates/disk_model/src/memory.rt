@@ -1,14 +1,13 @@
 // The calls of a file in memory. Each reserves its memory first, so that nothing has changed where there is none.
 ghost use Rattle.std.specs.Prelude.{◌≡◌, ◌≤◌, ◌<◌, ◌+◌, ◌-◌, min, Option, Some, [], ◌∷◌, ◌++◌, length, drop, take, OnOk, OnErr, IfOk, Ok};
-ghost use Rattle.outside_io.specs.Disk.{kept, wrote, shortened, Does, Syncs, Reads, Within};
+ghost use Rattle.outside_io.specs.Disk.{ReadsAnImage, kept, wrote, shortened, Does, Syncs, Reads, Within};
 ghost use Rattle.outside_io.specs.Faults.{Rose, HasCause};
-ghost use Rattle.disk_model.specs.States.{history_of, reads_an_image};
 
 use crate::state::{MemDisk, Replaced, Undo};
 use outside_io::{Disk, Failed, Span};
 use std::alloc::Global;
 use std::mem;
-use wire_core::NoMemory;
+use wire_core::{Items, NoMemory};
 
 // Puts the piece over what is there from `at` on, and past the end.
 fn put(bytes: &mut Vec<u8>, at: usize, piece: &[u8]) -> Result<(), NoMemory>
@@ -23,10 +22,25 @@ fn put(bytes: &mut Vec<u8>, at: usize, piece: &[u8]) -> Result<(), NoMemory>
     Ok(())
 }
 
+// Copies the bytes from a place on, as many as there are and as there is room for, and answers how many.
+fn read_from(bytes: &[u8], at: usize, buf: &mut [u8]) -> usize
+    ensures count { result ≡ min (length buf.old) (length bytes.now - at) }
+    ensures bytes { take result buf.new ≡ take result (drop at bytes.now) }
+    ensures room { length buf.new ≡ length buf.old }
+{
+    if at >= bytes.len() {
+        return 0;
+    }
+    let left = &bytes[at..];
+    let count = buf.len().min(left.len());
+    buf[..count].copy_from_slice(&left[..count]);
+    count
+}
+
 impl MemDisk {
     /// An empty file, of which nothing is pending.
     pub fn new(alloc: Global) -> Result<MemDisk, NoMemory>
-        ensures empty { IfOk result (λ disk. history_of disk ≡ record { now = kept []; past = [] }) }
+        ensures empty { IfOk result (λ disk. disk.history ≡ record { now = kept []; past = [] }) }
         ensures faults { IfOk result (λ disk. disk.faults ≡ 0) }
     {
         Ok(MemDisk {
@@ -44,20 +58,20 @@ impl MemDisk {
     fn fail(&mut self) -> Failed
         ensures rose { Rose self.old.faults self.new.faults }
         ensures later { self.old.faults ≤ self.new.faults }
-        ensures same { history_of self.new ≡ history_of self.old }
+        ensures same { self.new.history ≡ self.old.history }
     {
         self.faults = self.faults.saturating_add(1);
         Failed
     }
 
     fn write(&mut self, at: usize, piece: &[u8]) -> Result<(), NoMemory>
-        requires { at ≤ self.old.len }
-        ensures written { Does (wrote at piece.now) (Some (history_of self.old)) (Some (history_of self.new)) result }
-        ensures same { OnErr result (history_of self.new ≡ history_of self.old) }
+        requires { at ≤ length self.old.history.now.bytes }
+        ensures written { Does (wrote at piece.now) (Some self.old.history) (Some self.new.history) result }
+        ensures same { OnErr result (self.new.history ≡ self.old.history) }
         ensures faults { self.new.faults ≡ self.old.faults }
     {
         let count = piece.len().min(self.len - at);
-        let old = self.buffer[at..at + count].to_vec(self.alloc)?;
+        let old = Items::from_vec(self.buffer[at..at + count].to_vec(self.alloc)?);
         self.unsynced.reserve(1)?;
         self.undo.reserve(1)?;
         let greatest = self.buffer.len();
@@ -85,12 +99,12 @@ impl MemDisk {
     }
 
     fn shorten(&mut self, len: usize) -> Result<(), NoMemory>
-        requires { len ≤ self.old.len }
-        ensures cut { Does (shortened len) (Some (history_of self.old)) (Some (history_of self.new)) result }
-        ensures same { OnErr result (history_of self.new ≡ history_of self.old) }
+        requires { len ≤ length self.old.history.now.bytes }
+        ensures cut { Does (shortened len) (Some self.old.history) (Some self.new.history) result }
+        ensures same { OnErr result (self.new.history ≡ self.old.history) }
         ensures faults { self.new.faults ≡ self.old.faults }
     {
-        let old = self.buffer[len..self.len].to_vec(self.alloc)?;
+        let old = Items::from_vec(self.buffer[len..self.len].to_vec(self.alloc)?);
         self.unsynced.reserve(1)?;
         self.undo.reserve(1)?;
         self.unsynced
@@ -116,12 +130,12 @@ impl MemDisk {
     }
 
     fn keep(&mut self) -> Result<(), NoMemory>
-        ensures kept { Syncs (Some (history_of self.old)) (Some (history_of self.new)) result }
+        ensures kept { Syncs (Some self.old.history) (Some self.new.history) result }
         ensures faults { self.new.faults ≡ self.old.faults }
     {
         self.undo.reserve(1)?;
         let greatest = self.buffer.len();
-        let unsynced = mem::replace(&mut self.unsynced, Vec::new(self.alloc));
+        let unsynced = Items::from_vec(mem::replace(&mut self.unsynced, Vec::new(self.alloc)));
         self.undo
             .push(Undo {
                 replaced: Replaced::Ranges { unsynced },
@@ -136,35 +150,31 @@ impl MemDisk {
 }
 
 impl Disk for MemDisk {
-    ghost history = { λ disk. Some (history_of disk) };
+    ghost history = { λ disk. Some disk.history };
 
     ghost faults = { λ disk. disk.faults };
 
-    ghost reads_an_image = { λ disk. reads_an_image disk };
-
     fn len(&mut self) -> Result<u64, Failed>
-        ensures length { result ≡ Ok self.old.len }
+        ensures length { result ≡ Ok (length self.old.history.now.bytes) }
         ensures same { self.new ≡ self.old }
     {
         Ok(self.len as u64)
     }
 
     fn read(&mut self, at: u64, buf: &mut [u8]) -> Result<usize, Failed>
-        ensures bytes { Reads (Some (history_of self.old)) at buf.old buf.new result }
-        ensures count { result ≡ Ok (min (length buf.old) (self.old.len - at)) }
+        ensures bytes { Reads (Some self.old.history) at buf.old buf.new result }
+        ensures count { result ≡ Ok (min (length buf.old) (length self.old.history.now.bytes - at)) }
         ensures room { length buf.new ≡ length buf.old }
+        ensures image { ReadsAnImage (Some self.old.history) }
         ensures same { self.new ≡ self.old }
     {
-        let at = (at as usize).min(self.len);
-        let count = buf.len().min(self.len - at);
-        buf[..count].copy_from_slice(&self.buffer[at..at + count]);
-        Ok(count)
+        Ok(read_from(&self.buffer[..self.len], at as usize, buf))
     }
 
     fn write_at(&mut self, at: u64, bytes: &[u8]) -> Result<(), Failed>
-        requires { Within (Some (history_of self.old)) at }
-        ensures written { Does (wrote at bytes.now) (Some (history_of self.old)) (Some (history_of self.new)) result }
-        ensures same { OnErr result (history_of self.new ≡ history_of self.old) }
+        requires { Within (Some self.old.history) at }
+        ensures written { Does (wrote at bytes.now) (Some self.old.history) (Some self.new.history) result }
+        ensures same { OnErr result (self.new.history ≡ self.old.history) }
         ensures cause { HasCause self.old.faults self.new.faults result }
     {
         match self.write(at as usize, bytes) {
@@ -174,9 +184,9 @@ impl Disk for MemDisk {
     }
 
     fn cut(&mut self, len: u64) -> Result<(), Failed>
-        requires { Within (Some (history_of self.old)) len }
-        ensures cut { Does (shortened len) (Some (history_of self.old)) (Some (history_of self.new)) result }
-        ensures same { OnErr result (history_of self.new ≡ history_of self.old) }
+        requires { Within (Some self.old.history) len }
+        ensures cut { Does (shortened len) (Some self.old.history) (Some self.new.history) result }
+        ensures same { OnErr result (self.new.history ≡ self.old.history) }
         ensures cause { HasCause self.old.faults self.new.faults result }
     {
         match self.shorten(len as usize) {

@@ -1,8 +1,9 @@
 // What a file in memory keeps.
-ghost use Rattle.std.specs.Prelude.{◌≤◌, length};
 
 use outside_io::Span;
 use std::alloc::Global;
+use std::marker::Model;
+use wire_core::Items;
 
 /// What a call replaced.
 #[derive(Debug, Drop)]
@@ -11,11 +12,11 @@ pub enum Replaced {
     Bytes {
         at: usize,
         count: usize,
-        old: Vec<u8>,
+        old: Items<u8>,
     },
     /// The call was a sync: these ranges had been written before it.
     Ranges {
-        unsynced: Vec<Span>,
+        unsynced: Items<Span>,
     },
 }
 
@@ -38,6 +39,16 @@ pub struct MemDisk {
     pub(crate) least: usize,
     pub(crate) undo: Vec<Undo>,
     pub(crate) faults: u64,
-    ghost low: { least ≤ len },
-    ghost high: { len ≤ length buffer.items },
+}
+
+impl Model for MemDisk {
+    ghost use Rattle.disk_model.specs.Disks.{DiskState};
+
+    ghost Value = { DiskState };
+
+    ghost use Rattle.disk_model.specs.States.{disk_of, IsWhole};
+
+    ghost view = { disk_of };
+
+    ghost invariant = { IsWhole };
 }

@@ -1,9 +1,9 @@
 // Files after a crash, and a fuse at each of its calls.
 use super::*;
-use outside_io::{Disk, Failed};
+use outside_io::{Disk, Failed, Host, KeptCall, MemHost, NamedDisk};
 use std::alloc::Global;
 use std::test::Fail;
-use wire_core::NoMemory;
+use wire_core::{Items, NoMemory};
 
 // Two disk calls: the length, and a write within it.
 fn write_within<D: Disk>(disk: &mut D, at: u64, bytes: &[u8]) -> Result<(), Failed> {
@@ -101,5 +101,63 @@ fn a_fuse_passes_its_calls_and_no_more(rt: HostRuntime) -> Result<(), Fail> {
         assert_eq!(rt; fuse.sync(), Err(Failed));
         assert!(rt; has(&mut fuse.disk(), left[file_after[k]]), "after {k}");
     }
+    Ok(())
+}
+
+// Opens a disk, writes at its end, and gives it back; whether all of it passed.
+fn extends<H: Host>(host: &mut H, name: &str, bytes: &[u8]) -> bool {
+    match host.open_disk(name) {
+        Ok(mut disk) => {
+            let passed = match disk.len() {
+                Ok(len) => write_within(&mut disk, len, bytes).is_ok(),
+                Err(_) => false,
+            };
+            host.back_disk(disk);
+            passed
+        }
+        Err(_) => false,
+    }
+}
+
+// A host with this disk.
+fn host_with(alloc: Global, disk: Fuse) -> Result<MemHost<Fuse>, NoMemory> {
+    let name = Items::from_vec(b"mux-0-a".to_vec(alloc)?);
+    let mut disks = Vec::new(alloc);
+    disks.push(NamedDisk { name, disk })?;
+    Ok(MemHost::new(alloc, Vec::new(alloc), disks, Vec::new(alloc)))
+}
+
+// Whether a call is the opening of a disk that had these bytes.
+fn is_opened(call: KeptCall<Fuse>, bytes: &[u8]) -> bool {
+    match call {
+        KeptCall::Opened { disk, .. } => has(&mut disk.disk(), bytes),
+        _ => false,
+    }
+}
+
+// Whether a call brought a disk back that a crash, picked by x's, leaves with these bytes.
+fn is_back(call: KeptCall<Fuse>, bytes: &[u8]) -> bool {
+    match call {
+        KeptCall::DiskBack { disk } => has(&mut disk.disk().crash(b"xxxxx"), bytes),
+        _ => false,
+    }
+}
+
+#[test]
+fn a_host_keeps_a_disk_as_it_went_out_and_as_it_came_back(rt: HostRuntime) -> Result<(), Fail> {
+    let alloc = rt.alloc();
+    let mut host = host_with(alloc, Fuse::new(file(alloc, b"abc")?, 4))?;
+    assert!(rt; extends(&mut host, "mux-0-a", b"de"));
+    assert!(rt; !extends(&mut host, "mux-0-a", b"fg"));
+    let mut calls = host.into_calls();
+    let last = calls.pop();
+    assert!(rt; matches!(last, Some(KeptCall::NotOpened { .. })));
+    if let Some(call) = calls.pop() {
+        assert!(rt; is_back(call, b"abcxx"));
+    }
+    if let Some(call) = calls.pop() {
+        assert!(rt; is_opened(call, b"abc"));
+    }
+    assert!(rt; calls.is_empty());
     Ok(())
 }

@@ -19,16 +19,29 @@ module _ (at : ℕ) (bytes file : List ℕ) (le : at ≤ length file) where
 
   pub take-over : take at (over at bytes file) ≡ take at file
   take-over =
-      take-append-le at (take at file ++ bytes) (drop (at + length bytes) file) (omega (arith, both_long)) ∙ take_at (take at file) bytes at (length-take-le at file le)
+      take-append-le at (take at file ++ bytes) (drop (at + length bytes) file) (omega (arith, both_long))
+      ∙ take_at (take at file) bytes at (length-take-le at file le)
 
   pub drop-over : drop (at + length bytes) (over at bytes file) ≡ drop (at + length bytes) file
   drop-over = drop_at (take at file ++ bytes) (drop (at + length bytes) file) (at + length bytes) both_long
 
   pub length-over : length (over at bytes file) ≡ max (length file) (at + length bytes)
-  length-over = omega (arith, both_long, length-append (take at file ++ bytes) (drop (at + length bytes) file), length-drop (at + length bytes) file)
+  length-over =
+      omega (
+        arith,
+        both_long,
+        length-append (take at file ++ bytes) (drop (at + length bytes) file),
+        length-drop (at + length bytes) file,
+      )
 
   pub torn_done : Torn at (length bytes) file (over at bytes file)
-  torn_done = record { front = take-over; back = drop-over; no_shorter = omega (arith, length-over); no_longer = omega (arith, length-over) }
+  torn_done =
+      record {
+        front = take-over;
+        back = drop-over;
+        no_shorter = omega (arith, length-over);
+        no_longer = omega (arith, length-over);
+      }
 
   below : (i : ℕ) → i < at → is_unsynced (wrote at bytes (kept file)) i ≡ false
   below i lt = grind (arith, nat_tests)
@@ -43,7 +56,8 @@ module _ (at : ℕ) (bytes file : List ℕ) (le : at ≤ length file) where
       longer = omega (arith, le, im.no_shorter)
 
       front : take at c ≡ take at file
-      front = ext_get_or 0 (take at c) (take at file) (length-take-le at c longer ∙ sym (length-take-le at file le)) (λ i lt.
+      front = ext_get_or 0 (take at c) (take at file) (length-take-le at c longer ∙ sym (length-take-le at file le))
+          (λ i lt.
           let small : i < at = omega (arith, lt, length-take-le at c longer) in
           get_or-take at c i 0 small
           ∙ im.stays i (omega (arith, small, le, length-over)) (omega (arith, small, longer)) (below i small)
@@ -52,11 +66,18 @@ module _ (at : ℕ) (bytes file : List ℕ) (le : at ≤ length file) where
 
       back : drop (at + length bytes) c ≡ drop (at + length bytes) file
       back = ext_get_or 0 (drop (at + length bytes) c) (drop (at + length bytes) file)
-          (omega (arith, length-drop (at + length bytes) c, length-drop (at + length bytes) file, im.no_shorter, im.no_longer))
+          (omega (
+            arith,
+            length-drop (at + length bytes) c,
+            length-drop (at + length bytes) file,
+            im.no_shorter,
+            im.no_longer,
+          ))
           (λ i lt.
           let within : at + length bytes + i < length c = omega (arith, lt, length-drop (at + length bytes) c) in
           get_or-drop (at + length bytes) c i 0
-          ∙ im.stays (at + length bytes + i) (omega (arith, within, im.no_longer, length-over)) within (above (at + length bytes + i) (omega arith))
+          ∙ im.stays (at + length bytes + i) (omega (arith, within, im.no_longer, length-over)) within
+          (above (at + length bytes + i) (omega arith))
           ∙ sym (get_or-drop (at + length bytes) (over at bytes file) i 0)
           ∙ ap (λ (l : List ℕ). get_or l i 0) drop-over)
 
@@ -65,7 +86,12 @@ module _ (n : ℕ) (file : List ℕ) (le : n ≤ length file) where
   low i lt = grind (arith, nat_tests)
 
   pub cut_done : Cut n file (take n file)
-  cut_done = record { front = take_all n (take n file) (omega (arith, length-take-le n file le)); no_shorter = omega (arith, length-take-le n file le); no_longer = omega (arith, le, length-take-le n file le) }
+  cut_done =
+      record {
+        front = take_all n (take n file) (omega (arith, length-take-le n file le));
+        no_shorter = omega (arith, length-take-le n file le);
+        no_longer = omega (arith, le, length-take-le n file le);
+      }
 
   pub image_cut : (c : List ℕ) → IsImage (shortened n (kept file)) c → Cut n file c
   image_cut c im = record { front = front; no_shorter = longer; no_longer = im.no_longer }
@@ -74,7 +100,8 @@ module _ (n : ℕ) (file : List ℕ) (le : n ≤ length file) where
       longer = omega (arith, le, im.no_shorter)
 
       front : take n c ≡ take n file
-      front = ext_get_or 0 (take n c) (take n file) (length-take-le n c longer ∙ sym (length-take-le n file le)) (λ i lt.
+      front = ext_get_or 0 (take n c) (take n file) (length-take-le n c longer ∙ sym (length-take-le n file le))
+          (λ i lt.
           let small : i < n = omega (arith, lt, length-take-le n c longer) in
           get_or-take n c i 0 small
           ∙ im.stays i (omega (arith, small, length-take-le n file le)) (omega (arith, small, longer)) (low i small))

@@ -7,3 +7,4 @@ pub mod Parts
 pub mod Loads
 pub mod Begin
 pub mod Whole
+pub mod Bodies

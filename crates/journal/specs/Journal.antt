@@ -1,10 +1,10 @@
 -- What a journal keeps, and what a crash leaves of it.
-use Rattle.std.specs.Prelude.{◌≡◌, ◌≢◌, ◌⊎◌, ◌<◌, ◌≤◌, ℕ, ◌+◌, true, List, [], ◌∷◌, ◌++◌, length, get_or, Result, Ok, Err, Option, None, Some, ⊤}
+use Rattle.std.specs.Prelude.{◌≡◌, ◌≢◌, ◌⊎◌, ◌<◌, ◌≤◌, ℕ, ◌+◌, Bool, true, List, [], ◌∷◌, ◌++◌, length, get_or, Result, Ok, Err, Option, None, Some, ⊤}
 use Rattle.outside_io.specs.Disk.{History, kept, Leaves, LeavesOnly}
 use Rattle.outside_io.specs.Faults.{Rose}
 use Rattle.journal.specs.Durable.{file_in, synced}
 use Rattle.journal.specs.File.{bodies, StandsFor}
-use Rattle.journal.specs.declared.journal.Journal.{Journal}
+use Rattle.journal.specs.State.{JournalState}
 use Rattle.journal.specs.declared.fault.JournalFault.{JournalFault}
 use Rattle.journal.specs.declared.fault.JournalFault.TheVariants.{Disk, Damaged, Full, NoMemory}
 use Rattle.journal.specs.declared.fault.Refused.{Refused}
@@ -30,12 +30,11 @@ abbrev pub Stands : ℕ → ℕ → Option History → Type 0
 Stands bound end None = ⊤
 Stands bound end (Some t) = (t.now ≡ kept t.now.bytes) × IsFile bound end t.now.bytes
 
--- The journal is live, with the room for one record, and its file is all on the disk.
-pub record IsReady {D : Type 0} (history : D → Option History) (journal : Journal D) : Type 0 where
-  pub live : journal.live ≡ true
-  pub room : 65541 ≤ length journal.room.items
-  pub begun : 1 ≤ journal.end
-  pub file : Stands journal.bound journal.end (history journal.a)
+-- There is room for one record, and as long as the journal is live its file is all on the disk.
+pub record IsKept (live : Bool) (room bound end : ℕ) (told : Option History) : Type 0 where
+  pub fits : 65541 ≤ room
+  pub begun : 1 ≤ end
+  pub stands : live ≡ true → Stands bound end told
 
 -- these bodies and one more
 abbrev pub with_body : List ℕ → Result (List (List ℕ)) ℕ → Result (List (List ℕ)) ℕ
@@ -80,23 +79,26 @@ AppendFails bound end n before now NoMemory = ⊥
 abbrev pub IsEmptyFile : List ℕ → Type 0
 IsEmptyFile file = (length file ≤ 1) ⊎ (get_or file 0 0 ≢ 1)
 
--- The old file's bodies are these, the new one has the same, and its last gate ends at `end`.
-abbrev pub OpenedAs : ℕ → Option History → Option History → List (List ℕ) → ℕ → Type 0
-OpenedAs bound None None bs end = ⊤
-OpenedAs bound None (Some u) bs end = ⊥
-OpenedAs bound (Some t) None bs end = ⊥
-OpenedAs bound (Some t) (Some u) bs end =
-    (bodies bound t.now.bytes ≡ Ok bs) × (bodies bound u.now.bytes ≡ Ok bs) × Stands bound end (Some u)
+-- The old file's bodies are these, and the new one has the same.
+abbrev pub OpenedAs : ℕ → Option History → Option History → List (List ℕ) → Type 0
+OpenedAs bound None None bs = ⊤
+OpenedAs bound None (Some u) bs = ⊥
+OpenedAs bound (Some t) None bs = ⊥
+OpenedAs bound (Some t) (Some u) bs = (bodies bound t.now.bytes ≡ Ok bs) × (bodies bound u.now.bytes ≡ Ok bs)
+
+-- The first sync succeeded, and each crash since then leaves a file that opens to the same.
+abbrev pub OpensSynced : ℕ → Option History → Option History → Type 0
+OpensSynced bound old new = LeavesOnly (synced old) new (IsAsBefore bound (file_in old))
 
 -- Nothing has changed; or the first sync succeeded, and each crash since then leaves a file that opens to the same.
 abbrev pub OpensOnly : ℕ → Option History → Option History → Type 0
-OpensOnly bound old new = (new ≡ old) ⊎ LeavesOnly (synced old) new (IsAsBefore bound (file_in old))
+OpensOnly bound old new = (new ≡ old) ⊎ OpensSynced bound old new
 
 -- the two disks where a call of open left them
-abbrev pub a_after : {D : Type 0} → Result (Journal D × List (List ℕ)) (Refused JournalFault D) → D
-a_after (Ok x) = x.0.a
-a_after (Err e) = e.a
+abbrev pub first_after : {D : Type 0} → Result (JournalState D × List (List ℕ)) (Refused JournalFault D) → D
+first_after (Ok x) = x.0.first
+first_after (Err e) = e.a
 
-abbrev pub b_after : {D : Type 0} → Result (Journal D × List (List ℕ)) (Refused JournalFault D) → D
-b_after (Ok x) = x.0.b
-b_after (Err e) = e.b
+abbrev pub second_after : {D : Type 0} → Result (JournalState D × List (List ℕ)) (Refused JournalFault D) → D
+second_after (Ok x) = x.0.second
+second_after (Err e) = e.b

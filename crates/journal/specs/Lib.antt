@@ -1,3 +1,4 @@
+pub mod State
 pub mod Durable
 pub mod File
 pub mod Records

@@ -5,7 +5,7 @@ ghost use Rattle.journal.specs.declared.fault.JournalFault.TheVariants.{Full, Di
 ghost use Rattle.journal.specs.Durable.{Has, IsStill, file_in, over, Torn};
 ghost use Rattle.journal.specs.File.{record_bytes, is_entry};
 ghost use Rattle.journal.specs.Reading.{LoadFails};
-ghost use Rattle.journal.specs.Journal.{IsReady, Stands, Adds, LeavesAdded, LeavesBodies, IsAsBefore, IsBeforeOrAfter, AppendFails, OpenedAs, OpensOnly, a_after, b_after, journal_length};
+ghost use Rattle.journal.specs.Journal.{Stands, Adds, LeavesAdded, LeavesBodies, IsAsBefore, IsBeforeOrAfter, AppendFails, OpenedAs, OpensSynced, OpensOnly, first_after, second_after, journal_length};
 
 use crate::durable::write_through;
 use crate::fault::{JournalFault, Refused};
@@ -13,6 +13,7 @@ use crate::opening::open_file;
 use crate::record::{RECORD_ROOM, compose};
 use outside_io::{Disk, Failed};
 use std::alloc::Global;
+use std::marker::Model;
 use wire_core::{BodyList, NoMemory};
 
 /// A journal that is open, in the first of its two disks. `end` is its length, from the file's start to the end of its
@@ -25,6 +26,20 @@ pub struct Journal<D: Disk> {
     end: u32,
     room: Vec<u8>,
     live: bool,
+}
+
+impl<D: Disk> Model for Journal<D> {
+    ghost use Rattle.std.specs.Prelude.{length};
+    ghost use Rattle.journal.specs.State.{JournalState, journal_code};
+    ghost use Rattle.journal.specs.Journal.{IsKept};
+
+    ghost Value = { JournalState D };
+
+    ghost coded = { journal_code D.code };
+
+    ghost view = { λ j. record { first = j.a; second = j.b; bound = j.bound; length = j.end; live = j.live } };
+
+    ghost invariant = { λ j. IsKept j.live (length j.room.items) j.bound j.end (D.history j.a) };
 }
 
 // Length, body and a closed gate behind the ending gate.
@@ -87,17 +102,18 @@ impl<D: Disk> Journal<D> {
         b: D,
         bound: u32,
     ) -> Result<(Journal<D>, BodyList), Refused<JournalFault, D>>
-        ensures ready { IfOk result (λ x. IsReady D.history x.0) }
-        ensures opened { IfOk result (λ x. OpenedAs bound (D.history a) (D.history x.0.a) x.1 x.0.end) }
-        ensures durable { IfOk result (λ x. LeavesBodies bound (D.history x.0.a) x.1) }
-        ensures length { IfOk result (λ x. x.0.end ≡ journal_length x.1) }
+        ensures live { IfOk result (λ x. x.0.live ≡ true) }
+        ensures opened { IfOk result (λ x. OpenedAs bound (D.history a) (D.history x.0.first) x.1) }
+        ensures durable { IfOk result (λ x. LeavesBodies bound (D.history x.0.first) x.1) }
+        ensures synced { IfOk result (λ x. OpensSynced bound (D.history a) (D.history x.0.first)) }
+        ensures length { IfOk result (λ x. x.0.length ≡ journal_length x.1) }
         ensures bound { IfOk result (λ x. x.0.bound ≡ bound) }
-        ensures moments { OpensOnly bound (D.history a) (D.history (a_after result)) }
-        ensures still { IsStill (D.history a) → LeavesOnly (D.history a) (D.history (a_after result))
+        ensures moments { OpensOnly bound (D.history a) (D.history (first_after result)) }
+        ensures still { IsStill (D.history a) → LeavesOnly (D.history a) (D.history (first_after result))
             (IsAsBefore bound (file_in (D.history a))) }
         ensures fault { IfErr result (λ e. LoadFails (D.history a) bound (D.faults a) (D.faults e.a) e.fault) }
-        ensures later { D.faults a ≤ D.faults (a_after result) }
-        ensures other { b_after result ≡ b }
+        ensures later { D.faults a ≤ D.faults (first_after result) }
+        ensures other { second_after result ≡ b }
     {
         let mut a = a;
         let mut room = match zeros(alloc, RECORD_ROOM) {
@@ -135,7 +151,7 @@ impl<D: Disk> Journal<D> {
 
     /// The journal's length in bytes, up to the end of its ending gate: 1 and for each body its length and 5.
     pub fn length(&self) -> u32
-        ensures { result ≡ self.now.end }
+        ensures { result ≡ self.now.length }
     {
         self.end
     }
@@ -149,7 +165,7 @@ impl<D: Disk> Journal<D> {
 
     /// Gives the two disks back, the first one first.
     pub fn into_disks(self) -> (D, D)
-        ensures { result ≡ (self.a, self.b) }
+        ensures { result ≡ (self.first, self.second) }
     {
         let Journal { a, b, .. } = self;
         (a, b)
@@ -159,24 +175,26 @@ impl<D: Disk> Journal<D> {
     /// comes exactly where the length, the body's and 5 exceed the bound, and has changed nothing. `Disk` comes only
     /// where the count of the disk rose, and the journal isn't live afterwards. Takes no memory.
     pub fn append(&mut self, body: &[u8]) -> Result<(), JournalFault>
-        requires ready { IsReady D.history self.old }
+        requires live { self.old.live ≡ true }
         requires some { 1 ≤ length body.now }
         requires size { length body.now ≤ 65536 }
         requires entry { is_entry body.now ≡ true }
-        ensures ready { OnOk result (IsReady D.history self.new) }
-        ensures added { OnOk result (Adds self.old.bound body.now (D.history self.old.a) (D.history self.new.a)) }
-        ensures durable { OnOk result (LeavesAdded self.old.bound body.now (D.history self.old.a)
-            (D.history self.new.a)) }
-        ensures length { OnOk result (self.new.end ≡ self.old.end + length body.now + 5) }
-        ensures moments { LeavesOnly (D.history self.old.a) (D.history self.new.a)
-            (IsBeforeOrAfter self.old.bound (file_in (D.history self.old.a)) body.now) }
-        ensures fault { IfErr result (λ e. AppendFails self.old.bound self.old.end (length body.now)
-            (D.faults self.old.a) (D.faults self.new.a) e) }
-        ensures full { self.old.bound < self.old.end + length body.now + 5
-            → (result ≡ Err (Full self.old.end (length body.now))) × (self.new ≡ self.old) }
+        ensures live { OnOk result (self.new.live ≡ true) }
+        ensures added { OnOk result (Adds self.old.bound body.now
+            (D.history self.old.first) (D.history self.new.first)) }
+        ensures durable { OnOk result (LeavesAdded self.old.bound body.now
+            (D.history self.old.first) (D.history self.new.first)) }
+        ensures length { OnOk result (self.new.length ≡ self.old.length + length body.now + 5) }
+        ensures moments { LeavesOnly (D.history self.old.first) (D.history self.new.first)
+            (IsBeforeOrAfter self.old.bound (file_in (D.history self.old.first)) body.now) }
+        ensures fault { IfErr result (λ e. AppendFails self.old.bound self.old.length (length body.now)
+            (D.faults self.old.first) (D.faults self.new.first) e) }
+        ensures full { self.old.bound < self.old.length + length body.now + 5
+            → (result ≡ Err (Full self.old.length (length body.now))) × (self.new ≡ self.old) }
         ensures not_live { result ≡ Err Disk → self.new.live ≡ false }
-        ensures later { D.faults self.old.a ≤ D.faults self.new.a }
-        ensures other { (self.new.b ≡ self.old.b) × (self.new.bound ≡ self.old.bound) }
+        ensures later { D.faults self.old.first ≤ D.faults self.new.first }
+        ensures second { self.new.second ≡ self.old.second }
+        ensures bound { self.new.bound ≡ self.old.bound }
     {
         let n = body.len();
         let end = u64::from(self.end);

@@ -33,5 +33,5 @@ mod tests;
 
 pub use fault::{JournalFault, Refused};
 pub use journal::Journal;
-pub use laws::{file_is_its_records, records_are_read};
-pub use record::MAX_BODY;
+pub use laws::{entries_are_bodies, file_is_its_records, records_are_read};
+pub use record::{MAX_BODY, is_entry};

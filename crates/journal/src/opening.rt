@@ -4,7 +4,7 @@ ghost use Rattle.outside_io.specs.Disk.{LeavesOnly};
 ghost use Rattle.outside_io.specs.Faults.{HasCause};
 ghost use Rattle.journal.specs.Durable.{Has, IsStill};
 ghost use Rattle.journal.specs.Reading.{Empty, IsShort, LoadFails};
-ghost use Rattle.journal.specs.Journal.{IsEmptyFile, OpensOnly, OpenedAs, journal_length};
+ghost use Rattle.journal.specs.Journal.{IsEmptyFile, OpensOnly, OpensSynced, OpenedAs, Stands, journal_length};
 
 use crate::durable::{cut_through, write_through};
 use crate::fault::JournalFault;
@@ -50,7 +50,9 @@ pub fn open_file<D: Disk>(
     requires room { 65541 ≤ length room.old }
     ensures length { length room.new ≡ length room.old }
     ensures end { IfOk result (λ x. x.1 ≡ journal_length x.0) }
-    ensures opened { IfOk result (λ x. OpenedAs bound (D.history disk.old) (D.history disk.new) x.0 x.1) }
+    ensures opened { IfOk result (λ x. OpenedAs bound (D.history disk.old) (D.history disk.new) x.0) }
+    ensures stands { IfOk result (λ x. Stands bound x.1 (D.history disk.new)) }
+    ensures synced { OnOk result (OpensSynced bound (D.history disk.old) (D.history disk.new)) }
     ensures moments { OpensOnly bound (D.history disk.old) (D.history disk.new) }
     ensures later { D.faults disk.old ≤ D.faults disk.new }
     ensures fault { IfErr result (λ e. LoadFails (D.history disk.old) bound (D.faults disk.old) (D.faults disk.new) e) }

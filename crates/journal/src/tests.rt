@@ -1,6 +1,5 @@
 // Journals on memory disks, and a stop at each disk call.
-ghost use Rattle.std.specs.Prelude.{OnOk, IfOk, IfSome};
-ghost use Rattle.journal.specs.Journal.{IsReady};
+ghost use Rattle.std.specs.Prelude.{◌≡◌, true, OnOk};
 
 use crate::record::is_entry;
 use crate::{Journal, JournalFault, Refused};
@@ -20,8 +19,8 @@ const FILE: &[u8] = b"\x01\x00\x00\x00\x0d\x01\x01\x02\x00\x00\x00\x00\x00\x00\x
 
 // Appends what is an entry.
 fn append_entry<D: Disk>(journal: &mut Journal<D>, body: &[u8]) -> Result<(), JournalFault>
-    requires { IsReady D.history journal.old }
-    ensures { OnOk result (IsReady D.history journal.new) }
+    requires { journal.old.live ≡ true }
+    ensures { OnOk result (journal.new.live ≡ true) }
 {
     if body.is_empty() || body.len() > 65_536 || !is_entry(body) {
         return Err(JournalFault::NoMemory);

@@ -77,8 +77,8 @@ pub record Grew (P : FileState → Type 0) (old new : History) : Type 0 where
 abbrev pub IsWithin : FileState → FileState → Type 0
 IsWithin g f = (c : List ℕ) → IsImage f c → IsImage g c
 
--- A call that changes the file is done; or it failed, and no image is left but those that it could have left had it been
--- done. What isn't told stays untold, and what is told stays told.
+-- A call that changes the file is done; or it failed, and no image is left but those that it could have left had it
+-- been done. What isn't told stays untold, and what is told stays told.
 abbrev pub Does : {A E : Type 0} → (FileState → FileState) → Option History → Option History → Result A E → Type 0
 Does step None None result = ⊤
 Does step None (Some u) result = ⊥
@@ -108,7 +108,8 @@ HasLength None result = ⊤
 abbrev pub Reads : {E : Type 0} → Option History → ℕ → List ℕ → List ℕ → Result ℕ E → Type 0
 Reads told at before after (Err e) = ⊤
 Reads None at before after (Ok n) = ⊤
-Reads (Some t) at before after (Ok n) = (n ≡ min (length before) (length t.now.bytes - at)) × (take n after ≡ take n (drop at t.now.bytes))
+Reads (Some t) at before after (Ok n) = (n ≡ min (length before) (length t.now.bytes - at))
+    × (take n after ≡ take n (drop at t.now.bytes))
 
 -- a crash at any moment since old leaves a file that has P
 abbrev pub LeavesOnly : Option History → Option History → (List ℕ → Type 0) → Type 0
@@ -117,7 +118,7 @@ LeavesOnly None (Some u) P = ⊥
 LeavesOnly (Some t) None P = ⊥
 LeavesOnly (Some t) (Some u) P = Leaves P t.now × Grew (Leaves P) t u
 
--- what a read gives is one of the images
+-- what the file reads as is one of the images
 abbrev pub ReadsAnImage : Option History → Type 0
 ReadsAnImage None = ⊤
 ReadsAnImage (Some t) = IsImage t.now t.now.bytes

@@ -5,8 +5,9 @@ use Rattle.outside_io.specs.Disk.{History}
 use Rattle.outside_io.specs.Link.{Answer, Sent}
 use Rattle.outside_io.specs.Telling.{TellsNone}
 
--- One call of a host: a socket that it was asked for, and whether it handed out a link; a name that it was asked for, and
--- what the disk told when it was handed out, or that none was; a link or a disk that it took back, and what that told.
+-- One call of a host: a socket that it was asked for, and whether it handed out a link; a name that it was asked for,
+-- and what the disk told when it was handed out, or that none was; a link or a disk that it took back, and what that
+-- told.
 pub data HostCall : Type 0 where
   Bind : (at : Socket) (given : Bool) → HostCall
   OpenDisk : (name : List ℕ) (given : Option (Option History)) → HostCall
@@ -24,7 +25,8 @@ open_call history name (Ok disk) = OpenDisk name (Some (history disk))
 open_call history name (Err e) = OpenDisk name None
 
 -- no fault is counted, and nothing has come or gone
-pub record IsNewLink (next_faults send_faults : ℕ) (answers : Option (List Answer)) (sent : Option (List Sent)) : Type 0 where
+pub record IsNewLink (next_faults send_faults : ℕ) (answers : Option (List Answer))
+    (sent : Option (List Sent)) : Type 0 where
   pub next_sure : next_faults ≡ 0
   pub send_sure : send_faults ≡ 0
   pub no_answer : TellsNone answers

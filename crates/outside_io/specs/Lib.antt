@@ -4,3 +4,5 @@ pub mod Disk
 pub mod Link
 pub mod Host
 pub mod Memory
+pub mod MemoryLink
+pub mod MemoryHost

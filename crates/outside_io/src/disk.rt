@@ -1,4 +1,4 @@
-ghost use Rattle.std.specs.Prelude.{◌≡◌, ◌≤◌, List, ℕ, Option, length, IfOk};
+ghost use Rattle.std.specs.Prelude.{◌≡◌, ◌≤◌, List, ℕ, Option, length, OnOk, IfOk};
 ghost use Rattle.outside_io.specs.Disk.{History, HasLength, Reads, ReadsAnImage, Does, Syncs, Within, wrote, shortened};
 ghost use Rattle.outside_io.specs.Faults.{HasCause};
 
@@ -20,9 +20,6 @@ pub trait Disk {
     /// How often a call has failed.
     ghost faults: { Self → ℕ };
 
-    /// What a read gives is one of the images that a crash may leave.
-    ghost reads_an_image: { (disk : Self) → ReadsAnImage (history disk) };
-
     /// The number of bytes.
     fn len(&mut self) -> Result<u64, Failed>
         ensures length { HasLength (history self.old) result }
@@ -30,9 +27,10 @@ pub trait Disk {
         ensures cause { HasCause (faults self.old) (faults self.new) result };
 
     /// Reads the bytes from `at` on into the front of `buf`, all that there are and that there is room for, and answers
-    /// how many.
+    /// how many. What the file reads as is one of the images that a crash may leave.
     fn read(&mut self, at: u64, buf: &mut [u8]) -> Result<usize, Failed>
         ensures bytes { Reads (history self.old) at buf.old buf.new result }
+        ensures image { OnOk result (ReadsAnImage (history self.old)) }
         ensures count { IfOk result (λ n. n ≤ length buf.old) }
         ensures room { length buf.new ≡ length buf.old }
         ensures same { history self.new ≡ history self.old }

@@ -26,7 +26,8 @@ pub trait Host {
     /// A link whose own end is `at`. It has counted no fault, and tells of nothing that came or went.
     fn bind(&mut self, at: &Socket) -> Result<Self::L, Failed>
         ensures told { Tells (calls self.old) (calls self.new) (bind_call at.now result) }
-        ensures new { IfOk result (λ link. IsNewLink (Self.L.next_faults link) (Self.L.send_faults link) (Self.L.answers link) (Self.L.sent link)) }
+        ensures new { IfOk result (λ link. IsNewLink (Self.L.next_faults link) (Self.L.send_faults link)
+            (Self.L.answers link) (Self.L.sent link)) }
         ensures cause { HasCause (link_faults self.old) (link_faults self.new) result }
         ensures disk_faults { disk_faults self.new ≡ disk_faults self.old };
 

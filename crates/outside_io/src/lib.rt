@@ -1,11 +1,12 @@
-//! The windows to the outside: all that the program reads, writes, sends, stores and asks of the time goes through these traits.
+//! The windows to the outside: all that the program reads, writes, sends, stores and asks of the time goes through these
+//! traits.
 //!
 //! | trait | is | tells, where it is known |
 //! |---|---|---|
 //! | [`Source`] | a stream of bytes to read | what is left |
 //! | [`Sink`] | a stream of bytes to write | what was written |
 //! | [`Link`] | a socket for datagrams | each answer of `next`, each datagram handed to `send` |
-//! | [`Disk`] | a file that a crash may tear | what a read gives, and what a crash may leave now and at each moment before |
+//! | [`Disk`] | a file that a crash may tear | what a read gives, what a crash may leave now and at each moment before |
 //! | [`Clock`] | the time in milliseconds | its answers |
 //! | [`Host`] | what hands out links and disks | what it was asked for, what it handed out, what it took back |
 //!
@@ -15,6 +16,7 @@
 //! | objects | for |
 //! |---|---|
 //! | [`MemSource`], [`MemSink`], [`MemClock`] | tests and replays: data in memory, with the calls that are to fail |
+//! | [`MemLink`], [`MemHost`] | the same for links and a host; both keep their calls; its disks are [`Snapshot`]s |
 //! | [`SureSource`], [`SureSink`] | streams that never fail; the sink keeps nothing |
 //! | [`Reading`], [`Writing`] | any reader and writer of std |
 //! | [`NoHost`], [`NoLink`], [`NoDisk`] | a program that needs none: each call fails |
@@ -29,8 +31,11 @@ mod failed;
 mod host;
 mod laws;
 mod link;
+mod mem_host;
+mod mem_link;
 mod memory;
 mod nothing;
+mod snapshot;
 mod streams;
 mod sure;
 #[cfg(test)]
@@ -43,7 +48,10 @@ pub use failed::Failed;
 pub use host::Host;
 pub use laws::a_call_keeps_the_images_before_it;
 pub use link::{Arrival, Link, MAX_DATAGRAM};
+pub use mem_host::{KeptCall, LinkScript, MemHost, NamedDisk};
+pub use mem_link::{MemAnswer, MemLink, SentDatagram};
 pub use memory::{MemSink, MemSource};
 pub use nothing::{NoDisk, NoHost, NoLink};
+pub use snapshot::Snapshot;
 pub use streams::{Sink, Source};
 pub use sure::{SureSink, SureSource};

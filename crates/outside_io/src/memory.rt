@@ -16,7 +16,8 @@ pub struct Failing {
 }
 
 impl Failing {
-    fn new(numbers: Vec<u64>) -> Failing
+    /// None has failed yet.
+    pub(crate) fn new(numbers: Vec<u64>) -> Failing
         ensures { result ≡ record { calls = 0; numbers = numbers; faults = 0 } }
     {
         Failing {
@@ -26,8 +27,8 @@ impl Failing {
         }
     }
 
-    // Counts a call, and answers whether it is to fail.
-    fn call(&mut self) -> bool
+    /// Counts a call, and answers whether it is to fail.
+    pub(crate) fn call(&mut self) -> bool
         ensures fails { result ≡ fails_now self.old }
         ensures counted { CountsCall self.old self.new }
         ensures faults { self.new.faults ≡ self.old.faults }

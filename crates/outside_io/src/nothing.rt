@@ -1,12 +1,14 @@
 // What a program hands in where it has nothing of the kind: each call that answers a Result fails.
-ghost use Rattle.std.specs.Prelude.{◌≡◌, ◌≤◌, None, length};
+ghost use Rattle.std.specs.Prelude.{◌≡◌, ◌≤◌, None, Ok, length};
 ghost use Rattle.outside_io.specs.Faults.{Rose, HasFailed};
 
 use crate::disk::Disk;
 use crate::failed::Failed;
 use crate::host::Host;
 use crate::link::{Arrival, Link};
-use wire_core::Socket;
+use crate::snapshot::Snapshot;
+use std::alloc::Global;
+use wire_core::{NoMemory, Socket};
 
 // One fault more.
 fn count_fault(faults: &mut u64) -> Failed
@@ -83,8 +85,6 @@ impl Disk for NoDisk {
 
     ghost faults = { λ disk. disk.faults };
 
-    ghost reads_an_image = { λ _. tt };
-
     fn len(&mut self) -> Result<u64, Failed>
         ensures fails { HasFailed self.old.faults self.new.faults result }
     {
@@ -114,6 +114,20 @@ impl Disk for NoDisk {
         ensures fails { HasFailed self.old.faults self.new.faults result }
     {
         Err(count_fault(&mut self.faults))
+    }
+}
+
+impl Snapshot for NoDisk {
+    fn snapshot(&self, _alloc: Global) -> Result<NoDisk, NoMemory>
+        ensures { result ≡ Ok self.now }
+    {
+        Ok(NoDisk {
+            faults: self.faults,
+        })
+    }
+
+    fn has_failed(&self) -> bool {
+        self.faults != 0
     }
 }
 

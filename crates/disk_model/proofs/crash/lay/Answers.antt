@@ -6,5 +6,7 @@ use Rattle.disk_model.proofs.Laid.{laid_past}
 use Rattle.disk_model.proofs.crash.lay.Goals as goal
 
 pub returns : goal.returns
-returns c = laid_past (λ k. list_any (is_in k) c.args.ranges.now) c.args.end c.args.pick.now c.args.bytes.now c.overlay_all.new.bytes c.overlay.new.bytes c.overlay_all.ensures
-    (subst (λ n. IsOverlaid c.args.end n c.args.pick.now c.overlay_all.new.bytes c.overlay.new.bytes) (search rules) c.overlay.ensures)
+returns c = laid_past (λ k. list_any (is_in k) c.args.ranges.now) c.args.end c.args.pick.now c.args.bytes.now
+    c.overlay_all.new.bytes c.overlay.new.bytes c.overlay_all.ensures
+    (subst (λ n. IsOverlaid c.args.end n c.args.pick.now c.overlay_all.new.bytes c.overlay.new.bytes) (search rules)
+    c.overlay.ensures)

@@ -17,7 +17,9 @@ loop-range-preserved c =
     let from : c.min.result ≡ min s.from (min s.to (length bytes)) = c.min.ensures ∙ ap (λ k. min s.from k) to in
     let laid = subst (λ k. IsOverlaid k (min s.to (length bytes)) c.args.pick.now bytes c.overlay.new.bytes) from
     (subst (λ k. IsOverlaid c.min.result k c.args.pick.now bytes c.overlay.new.bytes) to c.overlay.ensures) in
-    ranges_more c.args.ranges.now c.loop-range.range-index none c.args.pick.now c.args.bytes.now bytes c.overlay.new.bytes c.loop-range-test.true c.loop-range.invariant laid
+    ranges_more c.args.ranges.now c.loop-range.range-index none c.args.pick.now c.args.bytes.now bytes
+    c.overlay.new.bytes c.loop-range-test.true c.loop-range.invariant laid
 
 pub returns : goal.returns
-returns c = subst (λ l. AreOverlaid l c.args.pick.now c.args.bytes.now c.loop-range.bytes) (take_all c.loop-range.range-index c.args.ranges.now c.loop-range-test.false) c.loop-range.invariant
+returns c = subst (λ l. AreOverlaid l c.args.pick.now c.args.bytes.now c.loop-range.bytes)
+    (take_all c.loop-range.range-index c.args.ranges.now c.loop-range-test.false) c.loop-range.invariant
