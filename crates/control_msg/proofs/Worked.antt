@@ -1,5 +1,5 @@
--- One message of each kind, with bytes that were worked out apart from this crate: the version, the kind, and the fields
--- in order, numbers big-endian.
+-- One message of each kind, with bytes that were worked out apart from this crate: the version, the kind, and the
+-- fields in order, numbers big-endian.
 use Rattle.std.specs.Prelude.{◌≡◌, ℕ, ◌+◌, ◌-◌, ◌*◌, nat_le, List, [], ◌∷◌, codes, if◌then◌else◌, Some, None}
 use Rattle.std.proofs.Common.{refl}
 use Rattle.wire_core.specs.declared.address.Ip4.{Ip4}

@@ -11,7 +11,8 @@ use Rattle.wire_core.specs.declared.entry.Entry.TheVariants.{Boot, Promise, Vote
 use Rattle.wire_core.proofs.NumberLaws.{length-number_bytes}
 use Rattle.wire_core.proofs.AgainLaws.{length-flat_map-mux_boots}
 
-pub reserve_is_long : (agent boot : ℕ) (machine : Ip4) (seq : ℕ) → length (command_bytes (Reserve agent boot machine seq)) ≡ 23
+pub reserve_is_long : (agent boot : ℕ) (machine : Ip4) (seq : ℕ)
+    → length (command_bytes (Reserve agent boot machine seq)) ≡ 23
 reserve_is_long agent boot machine seq = simp (length-append, length-number_bytes)
 
 pub granted_is_long : (n : ℕ) (muxes : List MuxBoot) → length (command_bytes (Granted n muxes)) ≡ 10 + 10 * length muxes
@@ -35,8 +36,10 @@ promise_is_long ballot = simp length-number_bytes
 pub epoch_is_long : (epoch : ℕ) → length (entry_bytes (Epoch epoch)) ≡ 9
 epoch_is_long epoch = simp length-number_bytes
 
-pub vote_is_long : (ballot : ℕ) (value : List LogCommand) → length (entry_bytes (Vote ballot value)) ≡ 9 + length (value_bytes value)
+pub vote_is_long : (ballot : ℕ) (value : List LogCommand)
+    → length (entry_bytes (Vote ballot value)) ≡ 9 + length (value_bytes value)
 vote_is_long ballot value = simp (length-append, length-number_bytes)
 
-pub learn_is_long : (ballot : ℕ) (value : List LogCommand) → length (entry_bytes (Learn ballot value)) ≡ 9 + length (value_bytes value)
+pub learn_is_long : (ballot : ℕ) (value : List LogCommand)
+    → length (entry_bytes (Learn ballot value)) ≡ 9 + length (value_bytes value)
 learn_is_long ballot value = simp (length-append, length-number_bytes)

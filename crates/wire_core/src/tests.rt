@@ -214,10 +214,9 @@ fn values_are_built(rt: HostRuntime) -> Result<(), Fail> {
     builder.push_granted(7, &muxes)?;
     assert_eq!(rt; builder.len(), 2);
     let value = builder.finish();
-    assert_eq!(rt;
-        value.as_value().as_bytes(),
-        b"\x02\x03\0\0\0\0\0\0\x01\x02\x02\0\0\0\0\0\0\0\x07\x02\0\0\0\0\0\0\0\0\0\x01\0\x03\0\0\0\0\0\0\x0a\x0b".as_slice()
-    );
+    let spelled =
+        b"\x02\x03\0\0\0\0\0\0\x01\x02\x02\0\0\0\0\0\0\0\x07\x02\0\0\0\0\0\0\0\0\0\x01\0\x03\0\0\0\0\0\0\x0a\x0b";
+    assert_eq!(rt; value.as_value().as_bytes(), spelled.as_slice());
     Ok(())
 }
 

@@ -13,7 +13,8 @@ invariant_of-self-2 c =
       fields = c.in_ok-write_granted.ensures.fields;
     } in
     let fits : c.args.n < 2 ^ 64 = search rules in
-    (builds_more c.self.inside.bytes.items (Granted c.args.n c.args.muxes.now) _ _ c.self.invariant few (fits, named) c.in_ok-write_granted.ensures.ok c.count_one.ensures).built
+    (builds_more c.self.inside.bytes.items (Granted c.args.n c.args.muxes.now) _ _ c.self.invariant few
+    (fits, named) c.in_ok-write_granted.ensures.ok c.count_one.ensures).built
 
 pub returns-clause-ok : goal.returns-clause-ok
 returns-clause-ok c =
@@ -25,5 +26,6 @@ returns-clause-ok c =
       fields = c.in_ok-write_granted.ensures.fields;
     } in
     let fits : c.args.n < 2 ^ 64 = search rules in
-    (builds_more c.self.inside.bytes.items (Granted c.args.n c.args.muxes.now) _ _ c.self.invariant few (fits, named) c.in_ok-write_granted.ensures.ok c.count_one.ensures).is
+    (builds_more c.self.inside.bytes.items (Granted c.args.n c.args.muxes.now) _ _ c.self.invariant few
+    (fits, named) c.in_ok-write_granted.ensures.ok c.count_one.ensures).is
     ∙ ap (λ (cs : List LogCommand). cs ++ Granted c.args.n c.args.muxes.now ∷ []) c.self.view_is
