@@ -5,7 +5,7 @@ use Rattle.std.proofs.lemmas.List.{length-append}
 use Rattle.std.proofs.lemmas.List.Concat.{flat_map-append}
 use Rattle.wire_core.specs.Building.{IsBuilt, added}
 use Rattle.wire_core.specs.Members.{Each}
-use Rattle.wire_core.specs.Commands.{LogCommand, command_bytes, value_bytes, IsAllowed, IsValue}
+use Rattle.wire_core.specs.Commands.{LogCommand, command_bytes, value_bytes, IsAllowed}
 use Rattle.wire_core.specs.Reading.{commands_at, commands_in, commands_of, value_at}
 use Rattle.wire_core.proofs.AgainLaws.{commands_again}
 use Rattle.wire_core.proofs.OwnedLaws.{read_back}

@@ -1,11 +1,9 @@
 -- How long spellings are.
-use Rattle.std.proofs.Common.{◌≡◌, ℕ, ◌+◌, ◌*◌, List, [], ◌∷◌, ◌++◌, length, arith}
-use Rattle.std.specs.List.{flat_map}
+use Rattle.std.proofs.Common.{◌≡◌, ℕ, ◌+◌, ◌*◌, List, length, arith}
 use Rattle.std.proofs.lemmas.List.{length-append}
 use Rattle.wire_core.specs.declared.address.Ip4.{Ip4}
 use Rattle.wire_core.specs.declared.command.MuxBoot.{MuxBoot}
-use Rattle.wire_core.specs.Numbers.{number_bytes}
-use Rattle.wire_core.specs.Commands.{Reserve, Granted, Release, Freed, Up, mux_boot_bytes, command_bytes, value_bytes, LogCommand}
+use Rattle.wire_core.specs.Commands.{Reserve, Granted, Release, Freed, Up, command_bytes, value_bytes, LogCommand}
 use Rattle.wire_core.specs.Entries.{entry_bytes}
 use Rattle.wire_core.specs.declared.entry.Entry.TheVariants.{Boot, Promise, Vote, Learn, Epoch}
 use Rattle.wire_core.proofs.NumberLaws.{length-number_bytes}

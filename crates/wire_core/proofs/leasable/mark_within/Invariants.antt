@@ -1,4 +1,4 @@
-use Rattle.std.proofs.Common.{◌≡◌, ℕ, ◌<◌, ◌*◌, ◌+◌, ◌||◌, ◌&&◌, not, nat_lt, nat_le, false, length, get_or}
+use Rattle.std.proofs.Common.{◌≡◌, ℕ, ◌<◌, ◌*◌, ◌+◌, ◌||◌, ◌&&◌, not, nat_le, false, length, get_or}
 use Rattle.wire_core.proofs.leasable.mark_within.Given as goal
 
 abbrev pub invariant-loop-i : goal.invariant-loop-i

@@ -1,4 +1,4 @@
-use Rattle.std.proofs.Common.{◌≡◌, ◌∙◌, ◌∷◌, ◌++◌, [], ap, arith}
+use Rattle.std.proofs.Common.{◌∙◌, ◌∷◌, ◌++◌, [], ap, arith}
 use Rattle.wire_core.proofs.BuildingLaws.{builds}
 use Rattle.wire_core.proofs.builder.ValueBuilder.new.Goals as goal
 

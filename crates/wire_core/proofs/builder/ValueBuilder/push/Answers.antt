@@ -1,4 +1,4 @@
-use Rattle.std.proofs.Common.{◌≡◌, ◌∙◌, ◌<◌, ◌∷◌, ◌++◌, [], List, length, subst, sym, ap}
+use Rattle.std.proofs.Common.{◌∙◌, ◌<◌, ◌∷◌, ◌++◌, [], List, length, subst, sym, ap}
 use Rattle.wire_core.specs.Commands.{LogCommand}
 use Rattle.wire_core.specs.Views.{command_of}
 use Rattle.wire_core.proofs.BuildingLaws.{builds_more}

@@ -1,4 +1,4 @@
-use Rattle.std.proofs.Common.{◌≡◌, ◌∙◌, ◌<◌, ◌^◌, ◌∷◌, ◌++◌, [], List, length, subst, sym, ap, rules}
+use Rattle.std.proofs.Common.{◌∙◌, ◌<◌, ◌^◌, ◌∷◌, ◌++◌, [], List, length, subst, sym, ap, rules}
 use Rattle.wire_core.specs.Commands.{LogCommand, Granted, AreNamed}
 use Rattle.wire_core.proofs.BuildingLaws.{builds_more}
 use Rattle.wire_core.proofs.builder.ValueBuilder.push_granted.Goals as goal

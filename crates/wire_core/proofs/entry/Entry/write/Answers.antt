@@ -1,4 +1,4 @@
-use Rattle.std.proofs.Common.{◌≡◌, arith}
+use Rattle.std.proofs.Common.{arith}
 use Rattle.std.proofs.lemmas.Bool.{false≢true}
 use Rattle.wire_core.proofs.LengthLaws.{boot_is_long, promise_is_long, vote_is_long, learn_is_long, epoch_is_long}
 use Rattle.wire_core.proofs.entry.Entry.write.Goals as goal
