@@ -1,4 +1,4 @@
-use Rattle.std.proofs.Common.{◌≡◌, arith}
+use Rattle.std.proofs.Common.{arith}
 use Rattle.control_msg.proofs.LengthLaws.{number_is_long}
 use Rattle.control_msg.proofs.fields.write_number.Goals as goal
 

@@ -1,4 +1,4 @@
-use Rattle.std.proofs.Common.{◌≡◌, arith}
+use Rattle.std.proofs.Common.{arith}
 use Rattle.control_msg.proofs.LengthLaws.{three_numbers_are_long}
 use Rattle.control_msg.proofs.fields.write_three_numbers.Goals as goal
 

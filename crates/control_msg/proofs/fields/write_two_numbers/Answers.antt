@@ -1,4 +1,4 @@
-use Rattle.std.proofs.Common.{◌≡◌, arith}
+use Rattle.std.proofs.Common.{arith}
 use Rattle.control_msg.proofs.LengthLaws.{two_numbers_are_long}
 use Rattle.control_msg.proofs.fields.write_two_numbers.Goals as goal
 

@@ -1,4 +1,4 @@
-use Rattle.std.proofs.Common.{◌≡◌, length, ap, arith}
+use Rattle.std.proofs.Common.{length, ap, arith}
 use Rattle.control_msg.proofs.LengthLaws.{valued_is_long}
 use Rattle.control_msg.proofs.fields.write_valued.Goals as goal
 

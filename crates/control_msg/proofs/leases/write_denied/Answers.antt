@@ -1,4 +1,4 @@
-use Rattle.std.proofs.Common.{◌≡◌, arith}
+use Rattle.std.proofs.Common.{arith}
 use Rattle.control_msg.proofs.LengthLaws.{denied_is_long}
 use Rattle.control_msg.proofs.leases.write_denied.Goals as goal
 

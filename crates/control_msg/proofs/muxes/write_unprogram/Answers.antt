@@ -1,4 +1,4 @@
-use Rattle.std.proofs.Common.{◌≡◌, arith}
+use Rattle.std.proofs.Common.{arith}
 use Rattle.control_msg.proofs.LengthLaws.{unprogram_is_long}
 use Rattle.control_msg.proofs.muxes.write_unprogram.Goals as goal
 

@@ -1,4 +1,4 @@
-use Rattle.std.proofs.Common.{◌≡◌, arith}
+use Rattle.std.proofs.Common.{arith}
 use Rattle.control_msg.proofs.LengthLaws.{redirect_is_long}
 use Rattle.control_msg.proofs.redirects.write_redirect.Goals as goal
 
