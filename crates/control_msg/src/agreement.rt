@@ -1,5 +1,5 @@
 // Replicas agree on the log.
-ghost use Rattle.std.specs.Prelude.{◌≡◌, ◌++◌, OnOk, OnErr};
+ghost use Rattle.std.specs.Prelude.{◌≡◌, ◌+◌, ◌≤◌, ◌++◌, OnOk, OnErr, IsOk, length, vec_len, vec_capacity};
 ghost use Rattle.std.specs.Option.{option_copied};
 ghost use Rattle.wire_core.specs.Reading.{Gives};
 ghost use Rattle.control_msg.specs.Messages.{message_bytes, number, optional_value, spelled};
@@ -131,19 +131,21 @@ fn optional_bytes<'a>(value: &Option<Value<'a>>) -> &'a [u8]
 pub fn write_promise(
     out: &mut Vec<u8>,
     ballot: u64,
-    length: u64,
+    log_length: u64,
     vote: u64,
     value: &Option<Value>,
 ) -> Result<(), NoMemory>
     ensures ok { OnOk result (out.new.items
-        ≡ out.old.items ++ message_bytes (Message.Promise ballot length vote value.now)) }
+        ≡ out.old.items ++ message_bytes (Message.Promise ballot log_length vote value.now)) }
     ensures err { OnErr result (out.new.items ≡ out.old.items) }
+    ensures room { vec_len out.old + length (message_bytes (Message.Promise ballot log_length vote value.now))
+        ≤ vec_capacity out.old → IsOk result }
 {
     let bytes = optional_bytes(value);
     out.reserve(bytes.len().saturating_add(26))?;
     put_head(out, 2);
     put_u64(out, ballot);
-    put_u64(out, length);
+    put_u64(out, log_length);
     put_u64(out, vote);
     put_bytes(out, bytes);
     Ok(())

@@ -1,5 +1,5 @@
 // The fields that several messages have.
-ghost use Rattle.std.specs.Prelude.{◌≡◌, ◌+◌, ◌≤◌, [], ◌∷◌, ◌++◌, OnOk, OnErr, vec_len, vec_capacity};
+ghost use Rattle.std.specs.Prelude.{◌≡◌, ◌+◌, ◌≤◌, [], ◌∷◌, ◌++◌, OnOk, OnErr, IsOk, length, vec_len, vec_capacity};
 ghost use Rattle.wire_core.specs.Commands.{value_bytes};
 ghost use Rattle.wire_core.specs.Reading.{Gives};
 ghost use Rattle.control_msg.specs.Messages.{address, number, spelled};
@@ -82,6 +82,7 @@ pub fn put_address(out: &mut Vec<u8>, a: Ip4)
 pub fn write_number(out: &mut Vec<u8>, kind: u8, a: u64) -> Result<(), NoMemory>
     ensures ok { OnOk result (out.new.items ≡ out.old.items ++ spelled kind (number a)) }
     ensures err { OnErr result (out.new.items ≡ out.old.items) }
+    ensures room { vec_len out.old + length (spelled kind (number a)) ≤ vec_capacity out.old → IsOk result }
 {
     out.reserve(10)?;
     put_head(out, kind);
@@ -93,6 +94,8 @@ pub fn write_number(out: &mut Vec<u8>, kind: u8, a: u64) -> Result<(), NoMemory>
 pub fn write_two_numbers(out: &mut Vec<u8>, kind: u8, a: u64, b: u64) -> Result<(), NoMemory>
     ensures ok { OnOk result (out.new.items ≡ out.old.items ++ spelled kind (number a ++ number b)) }
     ensures err { OnErr result (out.new.items ≡ out.old.items) }
+    ensures room { vec_len out.old + length (spelled kind (number a ++ number b)) ≤ vec_capacity out.old
+        → IsOk result }
 {
     out.reserve(18)?;
     put_head(out, kind);
@@ -111,6 +114,8 @@ pub fn write_three_numbers(
 ) -> Result<(), NoMemory>
     ensures ok { OnOk result (out.new.items ≡ out.old.items ++ spelled kind (number a ++ number b ++ number c)) }
     ensures err { OnErr result (out.new.items ≡ out.old.items) }
+    ensures room { vec_len out.old + length (spelled kind (number a ++ number b ++ number c)) ≤ vec_capacity out.old
+        → IsOk result }
 {
     out.reserve(26)?;
     put_head(out, kind);
@@ -131,6 +136,8 @@ pub fn write_valued(
     ensures ok { OnOk result (out.new.items
         ≡ out.old.items ++ spelled kind (number a ++ number b ++ value_bytes value.now)) }
     ensures err { OnErr result (out.new.items ≡ out.old.items) }
+    ensures room { vec_len out.old + length (spelled kind (number a ++ number b ++ value_bytes value.now))
+        ≤ vec_capacity out.old → IsOk result }
 {
     let bytes = value.as_bytes();
     out.reserve(bytes.len().saturating_add(18))?;

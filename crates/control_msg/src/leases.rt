@@ -1,5 +1,5 @@
 // Agents ask for ranges of ports and give them back.
-ghost use Rattle.std.specs.Prelude.{◌≡◌, ◌++◌, OnOk, OnErr};
+ghost use Rattle.std.specs.Prelude.{◌≡◌, ◌+◌, ◌≤◌, ◌++◌, OnOk, OnErr, IsOk, length, vec_len, vec_capacity};
 ghost use Rattle.wire_core.specs.Reading.{Gives};
 ghost use Rattle.control_msg.specs.Messages.{message_bytes};
 ghost use Rattle.control_msg.specs.Reading.{ask_at, denied_at, grant_at, number_at, two_numbers_at};
@@ -100,6 +100,8 @@ pub fn take_agent_known(bytes: &[u8]) -> Result<(Message<'_>, &[u8]), FieldFault
 pub fn write_ask(out: &mut Vec<u8>, boot: u64, machine: Ip4, seq: u64) -> Result<(), NoMemory>
     ensures ok { OnOk result (out.new.items ≡ out.old.items ++ message_bytes (Message.Ask boot machine seq)) }
     ensures err { OnErr result (out.new.items ≡ out.old.items) }
+    ensures room { vec_len out.old + length (message_bytes (Message.Ask boot machine seq)) ≤ vec_capacity out.old
+        → IsOk result }
 {
     out.reserve(22)?;
     put_head(out, 8);
@@ -122,6 +124,8 @@ pub fn write_grant(
     ensures ok { OnOk result (out.new.items
         ≡ out.old.items ++ message_bytes (Message.Grant boot machine seq n vip start)) }
     ensures err { OnErr result (out.new.items ≡ out.old.items) }
+    ensures room { vec_len out.old + length (message_bytes (Message.Grant boot machine seq n vip start))
+        ≤ vec_capacity out.old → IsOk result }
 {
     out.reserve(36)?;
     put_head(out, 9);
@@ -146,6 +150,8 @@ pub fn write_denied(
     ensures ok { OnOk result (out.new.items
         ≡ out.old.items ++ message_bytes (Message.Denied boot machine seq reason number)) }
     ensures err { OnErr result (out.new.items ≡ out.old.items) }
+    ensures room { vec_len out.old + length (message_bytes (Message.Denied boot machine seq reason number))
+        ≤ vec_capacity out.old → IsOk result }
 {
     out.reserve(31)?;
     put_head(out, 10);

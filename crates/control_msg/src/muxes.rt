@@ -1,5 +1,5 @@
 // A primary tells the muxes which machine has which range.
-ghost use Rattle.std.specs.Prelude.{◌≡◌, ◌++◌, OnOk, OnErr};
+ghost use Rattle.std.specs.Prelude.{◌≡◌, ◌+◌, ◌≤◌, ◌++◌, OnOk, OnErr, IsOk, length, vec_len, vec_capacity};
 ghost use Rattle.wire_core.specs.Reading.{Gives};
 ghost use Rattle.control_msg.specs.Messages.{message_bytes};
 ghost use Rattle.control_msg.specs.Reading.{program_at, three_numbers_at, two_numbers_at, unprogram_at};
@@ -104,6 +104,8 @@ pub fn write_program(
     ensures ok { OnOk result (out.new.items
         ≡ out.old.items ++ message_bytes (Message.Program epoch boot n vip start machine)) }
     ensures err { OnErr result (out.new.items ≡ out.old.items) }
+    ensures room { vec_len out.old + length (message_bytes (Message.Program epoch boot n vip start machine))
+        ≤ vec_capacity out.old → IsOk result }
 {
     out.reserve(36)?;
     put_head(out, 16);
@@ -128,6 +130,8 @@ pub fn write_unprogram(
     ensures ok { OnOk result (out.new.items
         ≡ out.old.items ++ message_bytes (Message.Unprogram epoch boot n vip start)) }
     ensures err { OnErr result (out.new.items ≡ out.old.items) }
+    ensures room { vec_len out.old + length (message_bytes (Message.Unprogram epoch boot n vip start))
+        ≤ vec_capacity out.old → IsOk result }
 {
     out.reserve(32)?;
     put_head(out, 18);

@@ -1,5 +1,5 @@
 // A connection leaves the muxes out.
-ghost use Rattle.std.specs.Prelude.{◌≡◌, ◌++◌, OnOk, OnErr};
+ghost use Rattle.std.specs.Prelude.{◌≡◌, ◌+◌, ◌≤◌, ◌++◌, OnOk, OnErr, IsOk, length, vec_len, vec_capacity};
 ghost use Rattle.wire_core.specs.Reading.{Gives};
 ghost use Rattle.control_msg.specs.Messages.{message_bytes};
 ghost use Rattle.control_msg.specs.Reading.{redirect_ask_at, redirect_at};
@@ -68,6 +68,8 @@ pub fn write_redirect_ask(
     ensures ok { OnOk result (out.new.items
         ≡ out.old.items ++ message_bytes (Message.RedirectAsk src sport dst dport machine)) }
     ensures err { OnErr result (out.new.items ≡ out.old.items) }
+    ensures room { vec_len out.old + length (message_bytes (Message.RedirectAsk src sport dst dport machine))
+        ≤ vec_capacity out.old → IsOk result }
 {
     out.reserve(18)?;
     put_head(out, 22);
@@ -94,6 +96,8 @@ pub fn write_redirect(
     ensures ok { OnOk result (out.new.items
         ≡ out.old.items ++ message_bytes (Message.Redirect side n src sport dst dport opener server)) }
     ensures err { OnErr result (out.new.items ≡ out.old.items) }
+    ensures room { vec_len out.old + length (message_bytes (Message.Redirect side n src sport dst dport opener server))
+        ≤ vec_capacity out.old → IsOk result }
 {
     out.reserve(31)?;
     put_head(out, 23);

@@ -1,4 +1,4 @@
-ghost use Rattle.std.specs.Prelude.{◌≡◌, ◌++◌, OnOk, OnErr};
+ghost use Rattle.std.specs.Prelude.{◌≡◌, ◌+◌, ◌≤◌, ◌++◌, OnOk, OnErr, IsOk, length, vec_len, vec_capacity};
 ghost use Rattle.control_msg.specs.Messages.{message_bytes};
 
 use crate::message::Message;
@@ -7,10 +7,12 @@ use wire_core::NoMemory;
 
 /// Appends the message's one spelling, from its version byte on. `decode` reads it again exactly where the message's
 /// fields are allowed: a start is a multiple of 8 from 1024 to 65528, a reason 1 or 2, a side 0 or 1, and a Promise has
-/// a value exactly where its vote isn't 0. Without memory `out` stays as it was.
+/// a value exactly where its vote isn't 0. It takes memory only where `out`
+/// has no room for it, and without memory `out` stays as it was.
 pub fn encode(m: &Message, out: &mut Vec<u8>) -> Result<(), NoMemory>
     ensures ok { OnOk result (out.new.items ≡ out.old.items ++ message_bytes m.now) }
     ensures err { OnErr result (out.new.items ≡ out.old.items) }
+    ensures room { vec_len out.old + length (message_bytes m.now) ≤ vec_capacity out.old → IsOk result }
 {
     match m {
         Message::Prepare { ballot } => fields::write_number(out, 1, *ballot),

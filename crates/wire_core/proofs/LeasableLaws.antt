@@ -12,11 +12,13 @@ allowed_by rule i taken is =
     rw (is, multiple) refl
 
 -- two tests that agree on each start count alike
-pub count_starts-agree : (p q : ℕ → Bool) (n : ℕ) → ((i : ℕ) → i < n → p (8 * i) ≡ q (8 * i)) → count_starts p n ≡ count_starts q n
+pub count_starts-agree : (p q : ℕ → Bool) (n : ℕ) → ((i : ℕ) → i < n → p (8 * i) ≡ q (8 * i))
+    → count_starts p n ≡ count_starts q n
 unfolding count_starts
 count_starts-agree p q zero same = refl
 count_starts-agree p q (suc n) same =
-    ap₂ (λ (count : ℕ) (passes : Bool). count + (if passes then 1 else 0)) (count_starts-agree p q n (λ i lt. same i (omega arith))) (same n (omega arith))
+    ap₂ (λ (count : ℕ) (passes : Bool). count + (if passes then 1 else 0))
+    (count_starts-agree p q n (λ i lt. same i (omega arith))) (same n (omega arith))
 
 -- the marked starts, where the flag of each tells a test
 pub count-marked : (p : ℕ → Bool) (flags : List Bool) → ((i : ℕ) → i < length flags → get_or flags i false ≡ p (8 * i))

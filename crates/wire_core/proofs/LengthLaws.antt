@@ -1,17 +1,16 @@
 -- How long spellings are.
-use Rattle.std.proofs.Common.{◌≡◌, ℕ, ◌+◌, ◌*◌, List, [], ◌∷◌, ◌++◌, length, arith}
-use Rattle.std.specs.List.{flat_map}
+use Rattle.std.proofs.Common.{◌≡◌, ℕ, ◌+◌, ◌*◌, List, length, arith}
 use Rattle.std.proofs.lemmas.List.{length-append}
 use Rattle.wire_core.specs.declared.address.Ip4.{Ip4}
 use Rattle.wire_core.specs.declared.command.MuxBoot.{MuxBoot}
-use Rattle.wire_core.specs.Numbers.{number_bytes}
-use Rattle.wire_core.specs.Commands.{Reserve, Granted, Release, Freed, Up, mux_boot_bytes, command_bytes, value_bytes, LogCommand}
+use Rattle.wire_core.specs.Commands.{Reserve, Granted, Release, Freed, Up, command_bytes, value_bytes, LogCommand}
 use Rattle.wire_core.specs.Entries.{entry_bytes}
 use Rattle.wire_core.specs.declared.entry.Entry.TheVariants.{Boot, Promise, Vote, Learn, Epoch}
 use Rattle.wire_core.proofs.NumberLaws.{length-number_bytes}
 use Rattle.wire_core.proofs.AgainLaws.{length-flat_map-mux_boots}
 
-pub reserve_is_long : (agent boot : ℕ) (machine : Ip4) (seq : ℕ) → length (command_bytes (Reserve agent boot machine seq)) ≡ 23
+pub reserve_is_long : (agent boot : ℕ) (machine : Ip4) (seq : ℕ)
+    → length (command_bytes (Reserve agent boot machine seq)) ≡ 23
 reserve_is_long agent boot machine seq = simp (length-append, length-number_bytes)
 
 pub granted_is_long : (n : ℕ) (muxes : List MuxBoot) → length (command_bytes (Granted n muxes)) ≡ 10 + 10 * length muxes
@@ -35,8 +34,10 @@ promise_is_long ballot = simp length-number_bytes
 pub epoch_is_long : (epoch : ℕ) → length (entry_bytes (Epoch epoch)) ≡ 9
 epoch_is_long epoch = simp length-number_bytes
 
-pub vote_is_long : (ballot : ℕ) (value : List LogCommand) → length (entry_bytes (Vote ballot value)) ≡ 9 + length (value_bytes value)
+pub vote_is_long : (ballot : ℕ) (value : List LogCommand)
+    → length (entry_bytes (Vote ballot value)) ≡ 9 + length (value_bytes value)
 vote_is_long ballot value = simp (length-append, length-number_bytes)
 
-pub learn_is_long : (ballot : ℕ) (value : List LogCommand) → length (entry_bytes (Learn ballot value)) ≡ 9 + length (value_bytes value)
+pub learn_is_long : (ballot : ℕ) (value : List LogCommand)
+    → length (entry_bytes (Learn ballot value)) ≡ 9 + length (value_bytes value)
 learn_is_long ballot value = simp (length-append, length-number_bytes)

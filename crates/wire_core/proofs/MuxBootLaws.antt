@@ -25,7 +25,8 @@ mux_boot_bytes-first bytes le h =
     rw (front, back) (sym (take-add 2 8 bytes))
 
 -- the muxes and boots in some bytes are spelled by those bytes
-pub flat_map-mux_boots : (count : ℕ) (bytes : List ℕ) → 10 * count ≤ length bytes → AreBytes bytes → flat_map mux_boot_bytes (mux_boots count bytes) ≡ take (10 * count) bytes
+pub flat_map-mux_boots : (count : ℕ) (bytes : List ℕ) → 10 * count ≤ length bytes → AreBytes bytes
+    → flat_map mux_boot_bytes (mux_boots count bytes) ≡ take (10 * count) bytes
 unfolding mux_boots
 flat_map-mux_boots zero bytes le h = refl
 flat_map-mux_boots (suc count) bytes le h =
@@ -35,7 +36,8 @@ flat_map-mux_boots (suc count) bytes le h =
     let all : 10 * suc count ≡ 10 + 10 * count = omega arith in
     rw (flat_map-cons, first, others, all) (sym (take-add 10 (10 * count) bytes))
 
-pub flat_map-pairs_of : (bytes : List ℕ) → length bytes % 10 ≡ 0 → AreBytes bytes → flat_map mux_boot_bytes (pairs_of bytes) ≡ bytes
+pub flat_map-pairs_of : (bytes : List ℕ) → length bytes % 10 ≡ 0 → AreBytes bytes
+    → flat_map mux_boot_bytes (pairs_of bytes) ≡ bytes
 flat_map-pairs_of bytes whole h =
     let all : 10 * (length bytes / 10) ≡ length bytes = omega arith in
     let spelled = flat_map-mux_boots (length bytes / 10) bytes (omega arith) h in

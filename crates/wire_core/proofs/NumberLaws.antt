@@ -20,7 +20,8 @@ first_byte : (b : ℕ) (bs : List ℕ) → AreBytes (b ∷ bs) → b < 256
 first_byte b bs h = h 0
 
 -- two lists of n bytes with one number are one list
-same_bytes : (n : ℕ) (xs ys : List ℕ) → length xs ≡ n → length ys ≡ n → AreBytes xs → AreBytes ys → big_from 0 n xs ≡ big_from 0 n ys → xs ≡ ys
+same_bytes : (n : ℕ) (xs ys : List ℕ) → length xs ≡ n → length ys ≡ n → AreBytes xs → AreBytes ys
+    → big_from 0 n xs ≡ big_from 0 n ys → xs ≡ ys
 same_bytes zero [] [] l m p q e = refl
 same_bytes zero [] (y ∷ ys) l m p q e = absurd (omega arith)
 same_bytes zero (x ∷ xs) ys l m p q e = absurd (omega arith)
@@ -29,12 +30,19 @@ same_bytes (suc n) (x ∷ xs) [] l m p q e = absurd (omega arith)
 same_bytes (suc n) (x ∷ xs) (y ∷ ys) l m p q e =
     let low_x : big_from 0 n xs < 256 ^ n = big_from-lt 0 n xs (rest_bytes x xs p) in
     let low_y : big_from 0 n ys < 256 ^ n = big_from-lt 0 n ys (rest_bytes y ys q) in
-    let is_x : big_from 0 (suc n) (x ∷ xs) ≡ x * 256 ^ n + big_from 0 n xs = ap (λ (r : ℕ). x * 256 ^ n + r) (big_from-cons 0 n x xs) in
-    let is_y : big_from 0 (suc n) (y ∷ ys) ≡ y * 256 ^ n + big_from 0 n ys = ap (λ (r : ℕ). y * 256 ^ n + r) (big_from-cons 0 n y ys) in
+    let is_x : big_from 0 (suc n) (x ∷ xs) ≡ x * 256 ^ n + big_from 0 n xs =
+    ap (λ (r : ℕ). x * 256 ^ n + r) (big_from-cons 0 n x xs) in
+    let is_y : big_from 0 (suc n) (y ∷ ys) ≡ y * 256 ^ n + big_from 0 n ys =
+    ap (λ (r : ℕ). y * 256 ^ n + r) (big_from-cons 0 n y ys) in
     let whole : x * 256 ^ n + big_from 0 n xs ≡ y * 256 ^ n + big_from 0 n ys = sym is_x ∙ e ∙ is_y in
-    let first : x ≡ y = sym (div-mul-add x (256 ^ n) (big_from 0 n xs) low_x) ∙ ap (λ (r : ℕ). r / 256 ^ n) whole ∙ div-mul-add y (256 ^ n) (big_from 0 n ys) low_y in
-    let others : big_from 0 n xs ≡ big_from 0 n ys = sym (mod-mul-add x (256 ^ n) (big_from 0 n xs) low_x) ∙ ap (λ (r : ℕ). r % 256 ^ n) whole ∙ mod-mul-add y (256 ^ n) (big_from 0 n ys) low_y in
-    let rest : xs ≡ ys = same_bytes n xs ys (omega arith) (omega arith) (rest_bytes x xs p) (rest_bytes y ys q) others in
+    let first : x ≡ y =
+    sym (div-mul-add x (256 ^ n) (big_from 0 n xs) low_x) ∙ ap (λ (r : ℕ). r / 256 ^ n) whole
+    ∙ div-mul-add y (256 ^ n) (big_from 0 n ys) low_y in
+    let others : big_from 0 n xs ≡ big_from 0 n ys =
+    sym (mod-mul-add x (256 ^ n) (big_from 0 n xs) low_x) ∙ ap (λ (r : ℕ). r % 256 ^ n) whole
+    ∙ mod-mul-add y (256 ^ n) (big_from 0 n ys) low_y in
+    let rest : xs ≡ ys =
+    same_bytes n xs ys (omega arith) (omega arith) (rest_bytes x xs p) (rest_bytes y ys q) others in
     rw (first, rest) refl
 
 byte_at-lt : (k x : ℕ) → byte_at k x < 256
@@ -60,7 +68,8 @@ drop_bytes (suc n) [] h = h
 drop_bytes (suc n) (b ∷ bs) h = drop_bytes n bs (rest_bytes b bs h)
 
 -- the bytes of the number in some bytes are those bytes
-pub number_bytes-big_number : (n : ℕ) (bytes : List ℕ) → n ≤ length bytes → AreBytes bytes → number_bytes n (big_number n bytes) ≡ take n bytes
+pub number_bytes-big_number : (n : ℕ) (bytes : List ℕ) → n ≤ length bytes → AreBytes bytes
+    → number_bytes n (big_number n bytes) ≡ take n bytes
 unfolding number_bytes
 number_bytes-big_number n bytes le h =
     let x : ℕ = big_from 0 n bytes in
@@ -68,5 +77,8 @@ number_bytes-big_number n bytes le h =
     let len : length (take n bytes) ≡ n = omega (arith, length-take n bytes) in
     let back = big_number-reads_back n (big_from 0 n bytes) [] small in
     let again : big_from 0 n (bytes_high_first n (big_from 0 n bytes)) ≡ big_from 0 n bytes = rw append-nil at back in
-    let same : big_from 0 n (bytes_high_first n (big_from 0 n bytes)) ≡ big_from 0 n (take n bytes) = again ∙ sym (big_from-take 0 n n bytes (omega arith)) in
-    same_bytes n (bytes_high_first n (big_from 0 n bytes)) (take n bytes) (length-bytes_high_first n (big_from 0 n bytes)) len (bytes_of_number n (big_from 0 n bytes)) (take_bytes n bytes h) same
+    let same : big_from 0 n (bytes_high_first n (big_from 0 n bytes)) ≡ big_from 0 n (take n bytes) =
+    again ∙ sym (big_from-take 0 n n bytes (omega arith)) in
+    same_bytes n (bytes_high_first n (big_from 0 n bytes)) (take n bytes)
+    (length-bytes_high_first n (big_from 0 n bytes)) len (bytes_of_number n (big_from 0 n bytes))
+    (take_bytes n bytes h) same

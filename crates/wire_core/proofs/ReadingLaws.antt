@@ -20,12 +20,14 @@ pub done_is : {A : Type 0} (x y : A) → done x ≡ done y → x ≡ y
 done_is x y e = cc
 
 -- the value of a step that did not fail
-pub bind_ok : {A B : Type 0} (r : Result A FieldFault) (f : A → Result B FieldFault) (y : B) → (r >>= f) ≡ Ok y → (x : A) × (r ≡ Ok x) × (f x ≡ Ok y)
+pub bind_ok : {A B : Type 0} (r : Result A FieldFault) (f : A → Result B FieldFault) (y : B) → (r >>= f) ≡ Ok y
+    → (x : A) × (r ≡ Ok x) × (f x ≡ Ok y)
 bind_ok (Ok x) f y e = (x, refl, e)
 bind_ok (Err d) f y e = absurd cc
 
 -- a test that did not fail
-pub guard_ok : {A : Type 0} (b : Bool) (d : FieldFault) (r : Result A FieldFault) (y : A) → cond b (Err d) r ≡ Ok y → (b ≡ false) × (r ≡ Ok y)
+pub guard_ok : {A : Type 0} (b : Bool) (d : FieldFault) (r : Result A FieldFault) (y : A) → cond b (Err d) r ≡ Ok y
+    → (b ≡ false) × (r ≡ Ok y)
 guard_ok true d r y e = absurd cc
 guard_ok false d r y e = (refl, e)
 
@@ -45,7 +47,8 @@ pub splits_none : (bytes : List ℕ) → AreBytes bytes → Splits bytes [] byte
 splits_none bytes h = record { joined = refl; bytes = h }
 
 pub splits_then : (a b : List ℕ) (x y z : List ℕ) → Splits x a y → Splits y b z → Splits x (a ++ b) z
-splits_then a b x y z p q = record { joined = p.joined ∙ ap (λ (l : List ℕ). a ++ l) q.joined ∙ sym (append_assoc a b z); bytes = q.bytes }
+splits_then a b x y z p q =
+    record { joined = p.joined ∙ ap (λ (l : List ℕ). a ++ l) q.joined ∙ sym (append_assoc a b z); bytes = q.bytes }
 
 pub record IsField (n : ℕ) (whole : List ℕ) (x : ℕ × List ℕ) : Type 0 where
   pub splits : Splits whole (number_bytes n x.0) x.1
@@ -56,8 +59,11 @@ field_is n bytes x h e =
     let g = guard_ok (ltb (length bytes) n) Short (done (big_number n bytes, drop n bytes)) x e in
     let long : n ≤ length bytes = ltb-false _ _ g.0 in
     let pair : ℕ × List ℕ = (big_number n bytes, drop n bytes) in
-    let whole : bytes ≡ number_bytes n (big_number n bytes) ++ drop n bytes = sym (take-append-drop n bytes) ∙ ap (λ (l : List ℕ). l ++ drop n bytes) (sym (number_bytes-big_number n bytes long h)) in
-    let made : IsField n bytes pair = record { splits = record { joined = whole; bytes = drop_bytes n bytes h }; small = big_from-lt 0 n bytes h } in
+    let whole : bytes ≡ number_bytes n (big_number n bytes) ++ drop n bytes =
+    sym (take-append-drop n bytes)
+    ∙ ap (λ (l : List ℕ). l ++ drop n bytes) (sym (number_bytes-big_number n bytes long h)) in
+    let made : IsField n bytes pair =
+    record { splits = record { joined = whole; bytes = drop_bytes n bytes h }; small = big_from-lt 0 n bytes h } in
     subst (IsField n bytes) (done_is pair x g.1) made
 
 -- one byte is spelled by itself
@@ -87,7 +93,10 @@ pub record IsCount (whole : List ℕ) (x : ℕ × List ℕ) : Type 0 where
 pub count_is : (bytes : List ℕ) (x : ℕ × List ℕ) → AreBytes bytes → count_at bytes ≡ Ok x → IsCount bytes x
 unfolding count_at
 count_is bytes x h e =
-    let a = bind_ok (field 1 bytes) (λ count. if (count.0 == 0) || nat_lt 16 count.0 then Err (NotAllowed (length bytes)) else Ok (count.0, count.1)) x e in
+    let a =
+    bind_ok (field 1 bytes)
+    (λ count. if (count.0 == 0) || nat_lt 16 count.0 then Err (NotAllowed (length bytes)) else Ok
+    (count.0, count.1)) x e in
     let g = guard_ok ((a.0.0 == 0) || nat_lt 16 a.0.0) (NotAllowed (length bytes)) (done (a.0.0, a.0.1)) x a.2 in
     let f = byte_is bytes a.0 h a.1 in
     let within = count_within a.0.0 g.0 in

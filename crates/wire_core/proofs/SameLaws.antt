@@ -1,5 +1,5 @@
 -- What is the same is equal, and the other way round.
-use Rattle.std.proofs.Common.{◌≡◌, true, refl, subst, arith}
+use Rattle.std.proofs.Common.{◌≡◌, true, refl, arith}
 use Rattle.wire_core.specs.declared.address.Ip4.{Ip4}
 use Rattle.wire_core.specs.declared.address.Socket.{Socket}
 use Rattle.wire_core.specs.declared.flow.FlowKey.{FlowKey}

@@ -19,7 +19,8 @@ mux_boot_bytes m = number_bytes 2 m.mux ++ number_bytes 8 m.boot
 
 -- a kind byte and the fields
 abbrev pub command_bytes : LogCommand → List ℕ
-command_bytes (Reserve agent boot machine seq) = 1 ∷ [] ++ number_bytes 2 agent ++ number_bytes 8 boot ++ number_bytes 4 machine.0 ++ number_bytes 8 seq
+command_bytes (Reserve agent boot machine seq) =
+    1 ∷ [] ++ number_bytes 2 agent ++ number_bytes 8 boot ++ number_bytes 4 machine.0 ++ number_bytes 8 seq
 command_bytes (Granted n muxes) = 2 ∷ [] ++ number_bytes 8 n ++ length muxes ∷ [] ++ flat_map mux_boot_bytes muxes
 command_bytes (Release n) = 3 ∷ [] ++ number_bytes 8 n
 command_bytes (Freed n) = 4 ∷ [] ++ number_bytes 8 n

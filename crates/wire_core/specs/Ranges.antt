@@ -19,7 +19,9 @@ has_port start port = nat_le start port && nat_le port (start + 7)
 
 -- a multiple of 8, all eight ports within the rule's bounds, none of them an endpoint's
 abbrev pub allows : VipRule → ℕ → Bool
-allows rule start = (start % 8 == 0) && nat_le rule.low start && nat_le (start + 7) rule.high && not (list_any (has_port start) rule.taken)
+allows rule start =
+    (start % 8 == 0) && nat_le rule.low start && nat_le (start + 7) rule.high
+    && not (list_any (has_port start) rule.taken)
 
 -- the rule of the range's VIP allows its start
 abbrev pub is_leasable : LeaseRules → Range → Bool

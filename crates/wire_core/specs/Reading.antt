@@ -56,7 +56,8 @@ lease_at make bytes = do
 unfoldable pub mux_boot_at : ℕ → List ℕ → Read MuxBoot
 mux_boot_at least bytes = do
   mux ← field 2 bytes
-  if nat_lt mux.0 least then Err (NotAllowed (length bytes)) else (field 8 mux.1 >>= λ boot. Ok (record { mux = mux.0; boot = boot.0 }, boot.1))
+  if nat_lt mux.0 least then Err (NotAllowed (length bytes)) else
+      (field 8 mux.1 >>= λ boot. Ok (record { mux = mux.0; boot = boot.0 }, boot.1))
 
 -- so many muxes with their boots, each above the one before
 unfoldable pub mux_boots_at : ℕ → ℕ → List ℕ → Read (List MuxBoot)

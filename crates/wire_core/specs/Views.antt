@@ -9,7 +9,8 @@ use Rattle.wire_core.specs.Commands.{LogCommand, Reserve, Granted, Release, Free
 -- so many muxes and boots in bytes, ten bytes each
 unfoldable pub mux_boots : ℕ → List ℕ → List MuxBoot
 mux_boots zero bytes = []
-mux_boots (suc count) bytes = record { mux = big_number 2 bytes; boot = big_number 8 (drop 2 bytes) } ∷ mux_boots count (drop 10 bytes)
+mux_boots (suc count) bytes =
+    record { mux = big_number 2 bytes; boot = big_number 8 (drop 2 bytes) } ∷ mux_boots count (drop 10 bytes)
 
 abbrev pub pairs_of : List ℕ → List MuxBoot
 pairs_of bytes = mux_boots (length bytes / 10) bytes

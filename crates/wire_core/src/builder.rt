@@ -1,7 +1,8 @@
 ghost use Rattle.std.specs.Prelude.{◌≡◌, ◌+◌, ◌*◌, ◌<◌, ◌≤◌, [], ◌∷◌, ◌++◌, length, slice_index, slice_set, vec_len, vec_capacity, IfOk, OnErr, OnOk};
 ghost use Rattle.std.specs.List.{flat_map};
 ghost use Rattle.wire_core.specs.Building.{IsBuilt, added};
-ghost use Rattle.wire_core.specs.Commands.{AreNamed, Granted, command_bytes, mux_boot_bytes, value_bytes};
+ghost use Rattle.wire_core.specs.Commands.{AscendsFrom, Granted, IsMuxBoot, command_bytes, mux_boot_bytes, value_bytes};
+ghost use Rattle.wire_core.specs.Members.{Each};
 ghost use Rattle.wire_core.specs.Views.{IsWritable, command_of};
 
 use crate::command::{Command, MuxBoot};
@@ -33,7 +34,8 @@ impl Model for ValueBuilder {
 /// Appends muxes with their boots, ten bytes each.
 fn put_mux_boots(out: &mut Vec<u8>, muxes: &[MuxBoot])
     requires { vec_len out.old + 10 * length muxes.now ≤ vec_capacity out.old }
-    ensures { out.new.items ≡ out.old.items ++ flat_map mux_boot_bytes muxes.now }
+    ensures bytes { out.new.items ≡ out.old.items ++ flat_map mux_boot_bytes muxes.now }
+    ensures fields { Each IsMuxBoot muxes.now }
 {
     for m in muxes {
         put_u16(out, m.mux);
@@ -46,6 +48,7 @@ fn write_granted(out: &mut Vec<u8>, n: u64, muxes: &[MuxBoot]) -> Result<(), NoM
     requires { length muxes.now ≤ 16 }
     ensures ok { OnOk result (out.new.items ≡ out.old.items ++ command_bytes (Granted n muxes.now)) }
     ensures err { OnErr result (out.new.items ≡ out.old.items) }
+    ensures fields { IfOk result (λ done. Each IsMuxBoot muxes.now) }
 {
     out.reserve(10 + 10 * muxes.len())?;
     put_u8(out, 2);
@@ -98,7 +101,9 @@ impl ValueBuilder {
     /// ascending numbers, have the row of lease `n`. Without memory the commands stay.
     pub fn push_granted(&mut self, n: u64, muxes: &[MuxBoot]) -> Result<(), NoMemory>
         requires few { length self.old < 16 }
-        requires named { AreNamed muxes.now }
+        requires some { 0 < length muxes.now }
+        requires named { length muxes.now ≤ 16 }
+        requires ascend { AscendsFrom 0 muxes.now }
         ensures ok { OnOk result (self.new ≡ self.old ++ Granted n muxes.now ∷ []) }
         ensures err { OnErr result (self.new ≡ self.old) }
     {

@@ -64,7 +64,8 @@ impl<'a> Command<'a> {
         requires { IsWritable self.now }
         ensures ok { OnOk result (out.new.items ≡ out.old.items ++ command_bytes (command_of self.now)) }
         ensures err { OnErr result (out.new.items ≡ out.old.items) }
-        ensures room { vec_len out.old + length (command_bytes (command_of self.now)) ≤ vec_capacity out.old → IsOk result }
+        ensures room { vec_len out.old + length (command_bytes (command_of self.now)) ≤ vec_capacity out.old
+            → IsOk result }
     {
         match *self {
             Command::Reserve {

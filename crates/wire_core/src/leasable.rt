@@ -25,7 +25,8 @@ fn mark_port(flags: &mut [bool], port: u16)
 fn mark_ports(flags: &mut [bool], ports: &[u16])
     ensures len { length flags.new ≡ length flags.old }
     ensures each { (i : ℕ) → i < length flags.old
-        → slice_index_or flags.new i false ≡ (slice_index_or flags.old i false || list_any (has_port (8 * i)) ports.now) }
+        → slice_index_or flags.new i false
+        ≡ (slice_index_or flags.old i false || list_any (has_port (8 * i)) ports.now) }
 {
     for port in ports {
         mark_port(flags, *port);

@@ -7,8 +7,9 @@
 //! | `address` | [`Ip4`], [`Socket`] |
 //! | `flow` | [`Proto`], [`FlowKey`] |
 //! | `range` | [`Range`]: eight contiguous ports of a VIP |
-//! | `rules` | [`LeaseRules`]: which ranges may be leased, and by whom |
-//! | `command`, `value` | [`Command`], [`Value`]: what the managers agree on |
+//! | `rules`, `leasable` | [`LeaseRules`]: which ranges may be leased, and by whom |
+//! | `same` | when two keys are the same |
+//! | `command`, `value`, `builder` | [`Command`], [`Value`], [`ValueBuilder`]: what the managers agree on |
 //! | `entry` | [`Entry`]: what a node makes durable |
 //! | `input`, `step` | [`Input`]: what a node handles at once; [`Step`]: what it then does |
 //! | `act`, `note`, `outgoing`, `connection` | what a step is made of |

@@ -1,7 +1,7 @@
 use crate::fnv::{FNV_OFFSET, fnv_1a_from};
 use crate::{
-    Command, Entry, FlowKey, Ip4, Items, LeaseRules, MachineRule, Proto, Range, Value, ValueFault,
-    VipRule, read_u16, read_u32, read_u64,
+    Command, Entry, FlowKey, Ip4, Items, LeaseRules, MachineRule, MuxBoot, Proto, Range, Value,
+    ValueBuilder, ValueFault, VipRule, read_u16, read_u32, read_u64,
 };
 use std::alloc::{AllocError, Global};
 use std::test::Fail;
@@ -196,5 +196,37 @@ fn hashes_of_bytes(rt: HostRuntime) -> Result<(), Fail> {
     assert_eq!(rt; fnv_1a_from(FNV_OFFSET, b""), 0x811c_9dc5);
     assert_eq!(rt; fnv_1a_from(FNV_OFFSET, b"a"), 0xe40c_292c);
     assert_eq!(rt; fnv_1a_from(FNV_OFFSET, b"foobar"), 0xbf9c_f968);
+    Ok(())
+}
+
+// A Granted of two muxes behind a Release, and the bytes that the table of commands gives them.
+#[test]
+fn values_are_built(rt: HostRuntime) -> Result<(), Fail> {
+    let mut builder = ValueBuilder::new(rt.alloc())?;
+    builder.push(&Command::Release { n: 0x0102 })?;
+    let muxes = [
+        MuxBoot { mux: 0, boot: 1 },
+        MuxBoot {
+            mux: 3,
+            boot: 0x0a0b,
+        },
+    ];
+    builder.push_granted(7, &muxes)?;
+    assert_eq!(rt; builder.len(), 2);
+    let value = builder.finish();
+    let spelled =
+        b"\x02\x03\0\0\0\0\0\0\x01\x02\x02\0\0\0\0\0\0\0\x07\x02\0\0\0\0\0\0\0\0\0\x01\0\x03\0\0\0\0\0\0\x0a\x0b";
+    assert_eq!(rt; value.as_value().as_bytes(), spelled.as_slice());
+    Ok(())
+}
+
+// Where the vector has room, nothing is allocated.
+#[test]
+fn room_is_enough(rt: HostRuntime) -> Result<(), Fail> {
+    let mut out = Vec::with_capacity(rt.alloc(), 9)?;
+    let room = out.capacity();
+    Command::Freed { n: 1 }.write(&mut out)?;
+    assert_eq!(rt; out.as_slice(), b"\x04\0\0\0\0\0\0\0\x01".as_slice());
+    assert_eq!(rt; out.capacity(), room);
     Ok(())
 }

@@ -1,4 +1,4 @@
-use Rattle.std.proofs.Common.{◌≡◌, ◌∙◌, ◌<◌, List, length, subst, sym}
+use Rattle.std.proofs.Common.{◌∙◌, ◌<◌, List, length, subst, sym}
 use Rattle.wire_core.specs.Commands.{LogCommand}
 use Rattle.wire_core.proofs.BuildingLaws.{finished}
 use Rattle.wire_core.proofs.builder.ValueBuilder.finish.Goals as goal

@@ -25,7 +25,15 @@ returns-in_err-reserve-in-Granted-clause-room c = λ room.
     let writable = rw c.in-Granted.is at c.requires in
     let pairs = c.in-Granted.pairs.now in
     let long = granted_is_long c.in-Granted.n (pairs_of pairs) in
-    absurd (omega (arith, rw c.in-Granted.is at room, long, length-pairs_of pairs, writable.1, c.in_err-reserve-in-Granted.ensures.full))
+    absurd
+    (omega (
+      arith,
+      rw c.in-Granted.is at room,
+      long,
+      length-pairs_of pairs,
+      writable.1,
+      c.in_err-reserve-in-Granted.ensures.full,
+    ))
 
 pub returns-in_err-reserve-in-Release-clause-room : goal.returns-in_err-reserve-in-Release-clause-room
 returns-in_err-reserve-in-Release-clause-room c = λ room.

@@ -1,4 +1,4 @@
-use Rattle.std.proofs.Common.{◌≡◌, arith}
+use Rattle.std.proofs.Common.{arith}
 use Rattle.std.proofs.lemmas.Bool.{false≢true}
 use Rattle.wire_core.proofs.LengthLaws.{boot_is_long, promise_is_long, vote_is_long, learn_is_long, epoch_is_long}
 use Rattle.wire_core.proofs.entry.Entry.write.Goals as goal
@@ -11,7 +11,8 @@ returns-in_err-reserve-in-Boot-clause-room c = λ room.
 pub returns-in_err-write_number-in-Promise-clause-room : goal.returns-in_err-write_number-in-Promise-clause-room
 returns-in_err-write_number-in-Promise-clause-room c = λ room.
     let long = promise_is_long c.in-Promise.ballot in
-    absurd (false≢true (c.in_err-write_number-in-Promise.ensures.room (omega (arith, rw c.in-Promise.is at room, long))))
+    absurd
+    (false≢true (c.in_err-write_number-in-Promise.ensures.room (omega (arith, rw c.in-Promise.is at room, long))))
 
 pub returns-in_err-write_value-in-Vote-clause-room : goal.returns-in_err-write_value-in-Vote-clause-room
 returns-in_err-write_value-in-Vote-clause-room c = λ room.

@@ -1,4 +1,4 @@
-use Rattle.std.proofs.Common.{◌≡◌, ◌∙◌, ◌<◌, ◌*◌, ◌||◌, false, length, get_or, ap, arith}
+use Rattle.std.proofs.Common.{◌≡◌, ◌∙◌, ◌<◌, ◌*◌, ◌||◌, false, get_or, ap, arith}
 use Rattle.std.proofs.lemmas.List.{get_or-replicate}
 use Rattle.std.proofs.Math.ListN.{replicate}
 use Rattle.std.specs.List.{list_any}
@@ -15,4 +15,5 @@ returns-clause-each c = λ i within.
     ∙ ap (λ b. b || list_any (has_port (8 * i)) c.as_slice.result.now) none
     ∙ ap (list_any (has_port (8 * i))) c.as_slice.ensures
     in
-    c.mark_within.ensures.each i within ∙ ap (λ b. get_or c.args.flags.now i false || b) (allowed_by c.args.self.now i _ taken)
+    c.mark_within.ensures.each i within
+    ∙ ap (λ b. get_or c.args.flags.now i false || b) (allowed_by c.args.self.now i _ taken)
