@@ -12,10 +12,10 @@ use wire_core::{NoMemory, put_bytes};
 const ROOM: usize = 65_507;
 
 /// The length of the outer header in bytes.
-const OUTER: usize = 20;
+pub(crate) const OUTER: usize = 20;
 
 /// Where the time to live and the header's checksum stand.
-const TTL: usize = 8;
+pub(crate) const TTL: usize = 8;
 
 const HEADER_SUM: usize = 10;
 

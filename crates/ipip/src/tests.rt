@@ -1,4 +1,7 @@
-use crate::{Buf, IpFault, UnwrapFault, WrapFault, unwrap, wrap, wrap_local};
+use crate::{
+    Buf, IpFault, UnwrapFault, WrapFault, can_wrap, can_wrap_local, unwrap, wrap, wrap_in_place,
+    wrap_local,
+};
 use ip_codec::{Ip4Header, Ip4View, write_header};
 use std::alloc::{AllocError, Global};
 use std::test::Fail;
@@ -138,5 +141,44 @@ fn faults_of_unwrapping(rt: HostRuntime) -> Result<(), Fail> {
         Some(UnwrapFault::Ip(IpFault::TotalLength))
     );
     assert_eq!(rt; unwrap_fault(&WRAPPED[20..]), Some(UnwrapFault::NotIpip));
+    Ok(())
+}
+
+/// What forbids it to forward the packet, and to send it from here.
+fn forbidden(bytes: &[u8]) -> Result<(Option<WrapFault>, Option<WrapFault>), Fail> {
+    let Ok(inner) = Ip4View::read(bytes) else {
+        return Err(Fail::from("faulty"));
+    };
+    Ok((can_wrap(&inner).err(), can_wrap_local(&inner).err()))
+}
+
+#[test]
+fn asked_beforehand(rt: HostRuntime) -> Result<(), Fail> {
+    let out = Some(WrapFault::TtlOut);
+    assert_eq!(rt; forbidden(&packet(rt.alloc(), 28, 2)?)?, (None, None));
+    assert_eq!(rt; forbidden(&packet(rt.alloc(), 28, 1)?)?, (out, None));
+    assert_eq!(rt; forbidden(&packet(rt.alloc(), 28, 0)?)?, (out, out));
+    let long = Some(WrapFault::TooLong);
+    assert_eq!(rt; forbidden(&packet(rt.alloc(), 65_001, 0)?)?, (long, long));
+    Ok(())
+}
+
+/// The packet wrapped behind 20 bytes that were left for it.
+fn wrapped_in_place(alloc: Global, bytes: &[u8]) -> Result<Vec<u8>, Fail> {
+    let Ok(inner) = Ip4View::read(bytes) else {
+        return Err(Fail::from("faulty"));
+    };
+    let mut frame = [0; 20].to_vec(alloc)?;
+    frame.extend_from_slice(inner.whole())?;
+    match wrap_in_place(MUX, MACHINE, frame.as_mut_slice()) {
+        Ok(()) => Ok(frame),
+        Err(_) => Err(Fail::from("refused")),
+    }
+}
+
+#[test]
+fn wrapped_where_it_lies(rt: HostRuntime) -> Result<(), Fail> {
+    let frame = wrapped_in_place(rt.alloc(), &WRAPPED[20..])?;
+    assert_eq!(rt; frame.as_slice(), WRAPPED.as_slice());
     Ok(())
 }

@@ -106,8 +106,7 @@ unsummed_out =
     0 ∷ 10 ∷ 0 ∷ 0 ∷ 104 ∷ 105 ∷ []
 
 -- SYNs with a maximum segment size of 1460 that isn't found: behind an option of length 1, behind one that goes past
--- the end, and
--- behind the end of the options
+-- the end, and behind the end of the options
 unfoldable pub behind_a_short_option : List ℕ
 behind_a_short_option =
     69 ∷ 0 ∷ 0 ∷ 48 ∷ 0 ∷ 1 ∷ 0 ∷ 0 ∷ 64 ∷ 6 ∷ 70 ∷ 136 ∷ 10 ∷ 1 ∷ 0 ∷ 4 ∷ 198 ∷ 51 ∷ 100 ∷ 7 ∷ 19 ∷ 136 ∷ 0 ∷ 80 ∷
@@ -131,12 +130,12 @@ behind_an_endless_option_out =
 unfoldable pub behind_the_end : List ℕ
 behind_the_end =
     69 ∷ 0 ∷ 0 ∷ 48 ∷ 0 ∷ 1 ∷ 0 ∷ 0 ∷ 64 ∷ 6 ∷ 70 ∷ 136 ∷ 10 ∷ 1 ∷ 0 ∷ 4 ∷ 198 ∷ 51 ∷ 100 ∷ 7 ∷ 19 ∷ 136 ∷ 0 ∷ 80 ∷
-    0 ∷ 0 ∷ 0 ∷ 1 ∷ 0 ∷ 0 ∷ 0 ∷ 0 ∷ 112 ∷ 2 ∷ 255 ∷ 255 ∷ 64 ∷ 10 ∷ 0 ∷ 0 ∷ 0 ∷ 0 ∷ 0 ∷ 0 ∷ 2 ∷ 4 ∷ 5 ∷ 180 ∷ []
+    0 ∷ 0 ∷ 0 ∷ 1 ∷ 0 ∷ 0 ∷ 0 ∷ 0 ∷ 112 ∷ 2 ∷ 255 ∷ 255 ∷ 64 ∷ 8 ∷ 0 ∷ 0 ∷ 0 ∷ 2 ∷ 2 ∷ 4 ∷ 5 ∷ 180 ∷ 0 ∷ 0 ∷ []
 
 unfoldable pub behind_the_end_out : List ℕ
 behind_the_end_out =
     69 ∷ 0 ∷ 0 ∷ 48 ∷ 0 ∷ 1 ∷ 0 ∷ 0 ∷ 64 ∷ 6 ∷ 142 ∷ 130 ∷ 192 ∷ 0 ∷ 2 ∷ 10 ∷ 198 ∷ 51 ∷ 100 ∷ 7 ∷ 4 ∷ 0 ∷ 0 ∷ 80 ∷
-    0 ∷ 0 ∷ 0 ∷ 1 ∷ 0 ∷ 0 ∷ 0 ∷ 0 ∷ 112 ∷ 2 ∷ 255 ∷ 255 ∷ 151 ∷ 140 ∷ 0 ∷ 0 ∷ 0 ∷ 0 ∷ 0 ∷ 0 ∷ 2 ∷ 4 ∷ 5 ∷ 180 ∷ []
+    0 ∷ 0 ∷ 0 ∷ 1 ∷ 0 ∷ 0 ∷ 0 ∷ 0 ∷ 112 ∷ 2 ∷ 255 ∷ 255 ∷ 151 ∷ 138 ∷ 0 ∷ 0 ∷ 0 ∷ 2 ∷ 2 ∷ 4 ∷ 5 ∷ 180 ∷ 0 ∷ 0 ∷ []
 
 -- a maximum segment size of 1460 behind 36 bytes of padding, in the longest header; and one of 8960 behind timestamps
 unfoldable pub behind_many : List ℕ
