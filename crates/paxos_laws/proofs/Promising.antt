@@ -58,7 +58,8 @@ no_vote_told w i c l x h none = record {
 }
 
 -- it says it by a ballot and a value
-pub promise_told : (w : View) (i c l : ℕ) (x : Cast) → PromiseOk w i c l x → PromiseOk w i c l (cast x.ballot (value_of x))
+pub promise_told : (w : View) (i c l : ℕ) (x : Cast)
+    → PromiseOk w i c l x → PromiseOk w i c l (cast x.ballot (value_of x))
 promise_told w i c l x h = by_if (λ (o : Option Value). PromiseOk w i c l (cast x.ballot o)) (x.ballot == 0)
     (λ none. no_vote_told w i c l x h (grind (arith, nat_tests)))
     (λ some. by_if (λ (y : Cast). PromiseOk w i c l y) (x.ballot == 0)

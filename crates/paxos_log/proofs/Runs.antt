@@ -110,7 +110,8 @@ unfolding view
 counts P w k p at ok = record {
   size = ok.size;
   values = ok.values;
-  by_turns = subst (λ (xs : List Mail). laws.Run (view start) ok.values (with_sent w xs)) (taken_same w k p at) ok.by_turns;
+  by_turns = subst (λ (xs : List Mail). laws.Run (view start) ok.values (with_sent w xs))
+      (taken_same w k p at) ok.by_turns;
   known = ok.known;
 }
 
