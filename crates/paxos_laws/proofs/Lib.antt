@@ -3,7 +3,10 @@ pub mod Growth
 pub mod Steps
 pub mod Plain
 pub mod Tells
-pub mod Handlers
+pub mod Promising
+pub mod Voting
+pub mod Learning
+pub mod Offering
 pub mod Messages
 pub mod More
 pub mod Turns

@@ -10,7 +10,9 @@ use Rattle.paxos_spec.specs.Replica.{mail, on_message}
 use Rattle.paxos_spec.specs.Agreement.{View}
 use Rattle.paxos_laws.specs.Facts.{BodyOk, MailOk}
 use Rattle.paxos_laws.specs.Steps.{GoodOut, Here}
-use Rattle.paxos_laws.proofs.Handlers.{prepare_good, promise_good, accept_good, accepted_good, refuse_good, chosen_good, fetched_good}
+use Rattle.paxos_laws.proofs.Promising.{prepare_good, promise_good}
+use Rattle.paxos_laws.proofs.Voting.{accept_good, accepted_good, refuse_good}
+use Rattle.paxos_laws.proofs.Learning.{chosen_good, fetched_good}
 
 message_of : (w : View) (r : ℕ) (x : Mail) → Here w r → Contains w.sent x → MailOk w x → (b : Body) → x.body ≡ b
     → BodyOk w x.sender b → GoodOut None w r (on_message r (w.disk r).state (w.memory r) x.sender b)

@@ -14,7 +14,7 @@ use Rattle.paxos_laws.specs.Leading.{LeaderOwns, PromiseIsBound, LeaderIsCovered
 use Rattle.paxos_laws.proofs.Growth.{chosen_on, choosable_back}
 use Rattle.paxos_laws.proofs.Steps as steps
 use Rattle.paxos_laws.proofs.Plain.{unoffered}
-use Rattle.paxos_laws.proofs.Handlers.{candidacy_good, campaign_good, offer_good}
+use Rattle.paxos_laws.proofs.Offering.{candidacy_good, campaign_good, offer_good}
 use Rattle.paxos_laws.proofs.Messages.{message_good}
 use Rattle.paxos_laws.proofs.More as more
 use Rattle.paxos_laws.proofs.Turns.{cut_good, both_good, own_senders}

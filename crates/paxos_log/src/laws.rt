@@ -1,5 +1,5 @@
 ghost use Rattle.std.specs.Prelude.{List};
-ghost use Rattle.paxos_log.specs.Told.{ToldIsChosen, ToldIsInLog, ToldIsOnDisk, ToldIsOne};
+ghost use Rattle.paxos_log.specs.Told.{ToldIsChosen, ToldIsInLog, ToldIsOnDisk, ToldIsOne, ToldWasOffered};
 ghost use Rattle.paxos_log.specs.WorkedRuns.{CatchingRun, ChosenRun, InheritedRun, InheritingRun, NothingRun};
 ghost use Rattle.paxos_log.specs.World.{run, start, view};
 ghost use Rattle.paxos_log.specs.declared.event.PaxosEvent.{PaxosEvent};
@@ -22,13 +22,14 @@ pub fn agreement()
 {}
 
 /// The same in the words of [`crate::PaxosWorld::learned`]: whatever happens, what a replica tells for a slot was
-/// chosen at the ballot that it tells, any two replicas tell the same value, and that is the value of the log of all
-/// five.
+/// chosen at the ballot that it tells, any two replicas tell the same value, that is the value of the log of all five,
+/// and an event offered it.
 pub fn told()
     ensures disk { ToldIsOnDisk }
     ensures chosen { (events : List PaxosEvent) → ToldIsChosen (run events start) }
     ensures one { (events : List PaxosEvent) → ToldIsOne (run events start) }
     ensures log { (events : List PaxosEvent) → ToldIsInLog (run events start) }
+    ensures offered { (events : List PaxosEvent) → ToldWasOffered events }
 {}
 
 /// Agreement isn't kept by doing nothing: in a run a value is chosen, in one it is inherited at ballot 6 and then
