@@ -64,7 +64,7 @@ pub fn read(bytes: &[u8]) -> Result<(Key, usize), &'static str> {
         return Err("IpVersion");
     }
     let header = header_len(bytes);
-    if header < 20 || header > bytes.len() {
+    if header < 20 {
         return Err("IpHeaderLength");
     }
     let total = usize::from(word(bytes, 2));

@@ -39,7 +39,8 @@ count name n = codes " " ++ name ++ codes " " ++ decimal n
 -- the line of a configuration
 abbrev pub counts_line : Counts → ℕ → List ℕ
 counts_line c ranges =
-    codes "ok replicas 5" ++ count (codes "muxes") c.muxes ++ count (codes "agents") c.agents ++ count (codes "machines") c.machines ++ count (codes "vips") c.vips
+    codes "ok replicas 5" ++ count (codes "muxes") c.muxes ++ count (codes "agents") c.agents
+    ++ count (codes "machines") c.machines ++ count (codes "vips") c.vips
     ++ count (codes "ranges") ranges ++ codes "\n"
 
 abbrev pub summary : ConfigParts → List ℕ

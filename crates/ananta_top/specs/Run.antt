@@ -31,7 +31,8 @@ Printed answered before after text = IsOkAnd (answered text) (λ lines. Appends 
 
 -- a front of the answer to this text was added
 abbrev pub PrintedFront : Answered → Option (List ℕ) → Option (List ℕ) → List ℕ → Type 0
-PrintedFront answered before after text = IsOkAnd (answered text) (λ lines. (n : ℕ) × Appends before after (take n lines))
+PrintedFront answered before after text =
+    IsOkAnd (answered text) (λ lines. (n : ℕ) × Appends before after (take n lines))
 
 -- the text is a schedule with a bad line
 abbrev pub IsBadSchedule : Result (List ℕ) NoAnswer → Type 0
@@ -113,8 +114,10 @@ status_of ending.WriteFault = WriteFault
 
 -- the line of the status was added, where it can be told
 abbrev pub TellsLine : Answered → Option (List ℕ) → Option (List ℕ) → Option (List ℕ) → Status → Type 0
-TellsLine answered input before after BadSchedule = IfSome input (λ text. Appends before after (status_line BadSchedule (answered text)))
-TellsLine answered input before after BadConfig = IfSome input (λ text. Appends before after (status_line BadConfig (answered text)))
+TellsLine answered input before after BadSchedule =
+    IfSome input (λ text. Appends before after (status_line BadSchedule (answered text)))
+TellsLine answered input before after BadConfig =
+    IfSome input (λ text. Appends before after (status_line BadConfig (answered text)))
 TellsLine answered input before after status = Appends before after (status_line status (Err no_form))
 
 -- ---- which ending says what

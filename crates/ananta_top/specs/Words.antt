@@ -6,7 +6,10 @@ use Rattle.ananta_top.specs.declared.words.Job.{Job}
 use Rattle.ananta_top.specs.declared.words.Job.TheVariants.{Replay, Check}
 
 abbrev pub job_named : List ℕ → Option Job
-job_named word = if bytes_eq word (codes "replay") then Some Replay else if bytes_eq word (codes "check") then Some Check else None
+job_named word =
+    if bytes_eq word (codes "replay") then Some Replay
+    else if bytes_eq word (codes "check") then Some Check
+    else None
 
 -- the one word `replay`, or `check`
 abbrev pub job_of : List (String Global) → Option Job

@@ -43,7 +43,8 @@ pub enum Ending {
 
 /// Writes `schedule line N`.
 fn report_line<K: Sink>(err: &mut K, number: u64) -> Result<(), Failed>
-    ensures ok { OnOk result (Appends (K.written err.old) (K.written err.new) (codes "schedule line " ++ decimal number ++ codes "\n")) }
+    ensures ok { OnOk result (Appends (K.written err.old) (K.written err.new)
+        (codes "schedule line " ++ decimal number ++ codes "\n")) }
     ensures err { OnErr result (Rose (K.faults err.old) (K.faults err.new)) }
 {
     write_all(err, b"schedule line ")?;
@@ -55,7 +56,8 @@ fn report_line<K: Sink>(err: &mut K, number: u64) -> Result<(), Failed>
 
 /// Writes `config PATH`.
 fn report_path<K: Sink>(err: &mut K, path: &str) -> Result<(), Failed>
-    ensures ok { OnOk result (Appends (K.written err.old) (K.written err.new) (codes "config " ++ path.now ++ codes "\n")) }
+    ensures ok { OnOk result (Appends (K.written err.old) (K.written err.new)
+        (codes "config " ++ path.now ++ codes "\n")) }
     ensures err { OnErr result (Rose (K.faults err.old) (K.faults err.new)) }
 {
     write_all(err, b"config ")?;

@@ -1,5 +1,5 @@
-//! The program's one call, [`run`]: the words after its name, its input, its two outputs, a host and a clock go in, and a
-//! status comes out. What it promises of a schedule is the headline of the project.
+//! The program's one call, [`run`]: the words after its name, its input, its two outputs, a host and a clock go in, and
+//! a status comes out. What it promises of a schedule is the headline of the project.
 //!
 //! | module | what it does |
 //! |---|---|

@@ -7,19 +7,34 @@ use std::alloc::{AllocError, Global};
 use std::test::Fail;
 
 /// The worked schedule, without its packets.
-const LEASES: &[u8] =
-    b"plain\nvip 192.0.2.10 1024 1039\nask 192.0.2.10 10.1.0.4\nask 192.0.2.10 10.1.0.5\nask 192.0.2.10 10.1.0.6\nreturn 17\nreturn 17\nask 192.0.2.10 10.1.0.6\n";
+const LEASES: &[u8] = b"plain\n\
+      vip 192.0.2.10 1024 1039\n\
+      ask 192.0.2.10 10.1.0.4\n\
+      ask 192.0.2.10 10.1.0.5\n\
+      ask 192.0.2.10 10.1.0.6\n\
+      return 17\n\
+      return 17\n\
+      ask 192.0.2.10 10.1.0.6\n";
 
 const LEASED: &[u8] =
     b"leased 1 1024\nleased 17 1032\nexhausted 33\nfreed 17\nunknown 17\nleased 65 1032\n";
 
 /// A configuration of one mux, one agent with one machine, and one VIP.
-const SMALL: &str =
-    r#"{"version":1,"router":"10.7.0.1:7000","replicas":["10.0.0.1:7000","10.0.0.2:7000","10.0.0.3:7000","10.0.0.4:7000","10.0.0.5:7000"],"muxes":["10.9.0.1:7000"],"agents":[{"socket":"10.8.0.1:7000","machines":[{"address":"10.1.0.4","attach":"10.1.0.4:9000"}]}],"vips":[{"address":"192.0.2.10","low":1024,"high":65535,"snat":["10.1.0.4"],"endpoints":[]}],"limit":16,"timers":{"lead_silent":1000,"mux_silent":5000,"ask_retry":500,"flow_idle":60000,"range_idle":30000}}"#;
+const SMALL: &str = r#"{"version":1,"router":"10.7.0.1:7000",
+  "replicas":["10.0.0.1:7000","10.0.0.2:7000","10.0.0.3:7000","10.0.0.4:7000","10.0.0.5:7000"],
+  "muxes":["10.9.0.1:7000"],
+  "agents":[{"socket":"10.8.0.1:7000","machines":[{"address":"10.1.0.4","attach":"10.1.0.4:9000"}]}],
+  "vips":[{"address":"192.0.2.10","low":1024,"high":65535,"snat":["10.1.0.4"],"endpoints":[]}],
+  "limit":16,"timers":{"lead_silent":1000,"mux_silent":5000,"ask_retry":500,"flow_idle":60000,"range_idle":30000}}"#;
 
 /// A configuration of two muxes, two agents with one machine each, and one VIP.
-const TWO_MUXES: &str =
-    r#"{"version":1,"router":"10.7.0.1:7000","replicas":["10.0.0.1:7000","10.0.0.2:7000","10.0.0.3:7000","10.0.0.4:7000","10.0.0.5:7000"],"muxes":["10.9.0.1:7000","10.9.0.2:7000"],"agents":[{"socket":"10.8.0.1:7000","machines":[{"address":"10.1.0.4","attach":"10.1.0.4:9000"}]},{"socket":"10.8.0.2:7000","machines":[{"address":"10.1.0.5","attach":"10.1.0.5:9000"}]}],"vips":[{"address":"192.0.2.10","low":1024,"high":1087,"snat":["10.1.0.4","10.1.0.5"],"endpoints":[]}],"limit":16,"timers":{"lead_silent":1000,"mux_silent":5000,"ask_retry":500,"flow_idle":60000,"range_idle":30000}}"#;
+const TWO_MUXES: &str = r#"{"version":1,"router":"10.7.0.1:7000",
+  "replicas":["10.0.0.1:7000","10.0.0.2:7000","10.0.0.3:7000","10.0.0.4:7000","10.0.0.5:7000"],
+  "muxes":["10.9.0.1:7000","10.9.0.2:7000"],
+  "agents":[{"socket":"10.8.0.1:7000","machines":[{"address":"10.1.0.4","attach":"10.1.0.4:9000"}]},
+    {"socket":"10.8.0.2:7000","machines":[{"address":"10.1.0.5","attach":"10.1.0.5:9000"}]}],
+  "vips":[{"address":"192.0.2.10","low":1024,"high":1087,"snat":["10.1.0.4","10.1.0.5"],"endpoints":[]}],
+  "limit":16,"timers":{"lead_silent":1000,"mux_silent":5000,"ask_retry":500,"flow_idle":60000,"range_idle":30000}}"#;
 
 /// How a run ended, and what stands on its two sinks.
 #[derive(Drop)]
@@ -223,10 +238,13 @@ fn as_many_lines_as_allowed(rt: HostRuntime) -> Result<(), Fail> {
         text.push(b'\n')?;
     }
     assert_eq!(rt; replay(alloc, &text)?.status, Status::Done);
-    text.extend_from_slice(b"# one more")?;
-    let ran = replay(alloc, &text)?;
-    assert_eq!(rt; ran.status, Status::BadSchedule);
-    assert_eq!(rt; ran.err.bytes(), b"schedule line 100001\n".as_slice());
+    for more in [b"\n".as_slice(), b"# one more".as_slice()] {
+        let mut longer = text.as_slice().to_vec(alloc)?;
+        longer.extend_from_slice(more)?;
+        let ran = replay(alloc, &longer)?;
+        assert_eq!(rt; ran.status, Status::BadSchedule);
+        assert_eq!(rt; ran.err.bytes(), b"schedule line 100001\n".as_slice());
+    }
     Ok(())
 }
 

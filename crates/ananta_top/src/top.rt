@@ -20,7 +20,8 @@ fn respond<K: Sink>(alloc: Global, job: Job, text: &[u8], out: &mut K) -> Ending
     ensures safe { IsSafeFor (Some job) text.now }
     ensures first { FirstIs result (answer job text.now) }
     ensures write { result ≡ Ending.WriteFault → Rose (K.faults out.old) (K.faults out.new) }
-    ensures front { result ≡ Ending.WriteFault → PrintedFront (answer job) (K.written out.old) (K.written out.new) text.now }
+    ensures front { result ≡ Ending.WriteFault
+        → PrintedFront (answer job) (K.written out.old) (K.written out.new) text.now }
     ensures kept { IsRefusal result → out.new ≡ out.old }
     ensures causes { AfterReading result }
 {
@@ -41,7 +42,8 @@ fn perform<S: Source, K: Sink>(
     out: &mut K,
 ) -> Ending
     ensures usage { (result ≡ Ending.Usage) ↔ (job_of words.now ≡ None) }
-    ensures done { result ≡ Ending.Done → IfSome (S.left input.old) (Printed (answered words.now) (K.written out.old) (K.written out.new)) }
+    ensures done { result ≡ Ending.Done
+        → IfSome (S.left input.old) (Printed (answered words.now) (K.written out.old) (K.written out.new)) }
     ensures end { result ≡ Ending.Done → IsAtEnd (S.left input.new) }
     ensures safe { result ≡ Ending.Done → IfSome (S.left input.old) (IsSafeFor (job_of words.now)) }
     ensures within { JudgesText result → IfSome (S.left input.old) IsWithin }
@@ -49,7 +51,8 @@ fn perform<S: Source, K: Sink>(
     ensures long { result ≡ Ending.TooLong → IfSome (S.left input.old) IsTooLong }
     ensures read { result ≡ Ending.ReadFault → Rose (S.faults input.old) (S.faults input.new) }
     ensures write { result ≡ Ending.WriteFault → Rose (K.faults out.old) (K.faults out.new) }
-    ensures front { result ≡ Ending.WriteFault → IfSome (S.left input.old) (PrintedFront (answered words.now) (K.written out.old) (K.written out.new)) }
+    ensures front { result ≡ Ending.WriteFault
+        → IfSome (S.left input.old) (PrintedFront (answered words.now) (K.written out.old) (K.written out.new)) }
     ensures kept { IsRefusal result → out.new ≡ out.old }
 {
     match job_of(words) {
@@ -63,11 +66,11 @@ fn perform<S: Source, K: Sink>(
     }
 }
 
-/// The program. `words` are those after its name. The input is read to its end, the job's answer goes to `out`, and what a
-/// status but Done has to tell goes to `err` as one line. The host and the clock stay as they were.
+/// The program. `words` are those after its name. The input is read to its end, the job's answer goes to `out`, and
+/// what a status but Done has to tell goes to `err` as one line. The host and the clock stay as they were.
 ///
-/// Statuses are tested in this order: Usage, ReadFault, TooLong, BadConfig or BadSchedule, WriteFault; NoMemory may come
-/// in place of any but Usage. Before WriteFault nothing is written to `out`.
+/// Statuses are tested in this order: Usage, ReadFault, TooLong, BadConfig or BadSchedule, WriteFault; NoMemory may
+/// come in place of any but Usage. Before WriteFault nothing is written to `out`.
 pub fn run<S: Source, K: Sink, H: Host, C: Clock>(
     alloc: Global,
     words: &[String],
@@ -77,28 +80,35 @@ pub fn run<S: Source, K: Sink, H: Host, C: Clock>(
     host: &mut H,
     clock: &mut C,
 ) -> Status
-    // The headline: what was written is exactly the answer, what the schedule prints or the line of the configuration; the
-    // input was read to its end; and each moment of a schedule was safe.
-    ensures done { result ≡ Status.Done → IfSome (S.left input.old) (Printed (answered words.now) (K.written out.old) (K.written out.new)) }
+    // The headline: what was written is exactly the answer, what the schedule prints or the line of the configuration;
+    // the input was read to its end; and each moment of a schedule was safe.
+    ensures done { result ≡ Status.Done
+        → IfSome (S.left input.old) (Printed (answered words.now) (K.written out.old) (K.written out.new)) }
     ensures end { result ≡ Status.Done → IsAtEnd (S.left input.new) }
     ensures safe { result ≡ Status.Done → IfSome (S.left input.old) (IsSafeFor (job_of words.now)) }
 
     // A text that has an answer gets it, unless a read or a write fails.
-    ensures complete { IsSomeAnd (S.left input.old) (IsAnswerable (answered words.now)) → ¬ (Rose (S.faults input.old) (S.faults input.new)) → ¬ (Rose (K.faults out.old) (K.faults out.new)) → IsDone result }
+    ensures complete { IsSomeAnd (S.left input.old) (IsAnswerable (answered words.now))
+        → ¬ (Rose (S.faults input.old) (S.faults input.new)) → ¬ (Rose (K.faults out.old) (K.faults out.new))
+        → IsDone result }
 
     // When each other answer comes.
     ensures usage { (result ≡ Status.Usage) ↔ (job_of words.now ≡ None) }
     ensures read { result ≡ Status.ReadFault → Rose (S.faults input.old) (S.faults input.new) }
     ensures long { result ≡ Status.TooLong → IfSome (S.left input.old) IsTooLong }
     ensures within { JudgesInput result → IfSome (S.left input.old) IsWithin }
-    ensures config { result ≡ Status.BadConfig → IfSome (S.left input.old) (λ text. IsBadConfig (answered words.now text)) }
-    ensures bad { result ≡ Status.BadSchedule → IfSome (S.left input.old) (λ text. IsBadSchedule (answered words.now text)) }
+    ensures config { result ≡ Status.BadConfig
+        → IfSome (S.left input.old) (λ text. IsBadConfig (answered words.now text)) }
+    ensures bad { result ≡ Status.BadSchedule
+        → IfSome (S.left input.old) (λ text. IsBadSchedule (answered words.now text)) }
     ensures write { result ≡ Status.WriteFault → Rose (K.faults out.old) (K.faults out.new) }
 
     // What stands on the two sinks otherwise.
-    ensures front { result ≡ Status.WriteFault → IfSome (S.left input.old) (PrintedFront (answered words.now) (K.written out.old) (K.written out.new)) }
+    ensures front { result ≡ Status.WriteFault
+        → IfSome (S.left input.old) (PrintedFront (answered words.now) (K.written out.old) (K.written out.new)) }
     ensures kept { Refuses result → out.new ≡ out.old }
-    ensures told { ¬ (Rose (K.faults err.old) (K.faults err.new)) → TellsLine (answered words.now) (S.left input.old) (K.written err.old) (K.written err.new) result }
+    ensures told { ¬ (Rose (K.faults err.old) (K.faults err.new))
+        → TellsLine (answered words.now) (S.left input.old) (K.written err.old) (K.written err.new) result }
 
     // What the job doesn't need.
     ensures host { host.new ≡ host.old }

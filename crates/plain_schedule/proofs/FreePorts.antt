@@ -17,16 +17,20 @@ next_place (suc (suc (suc (suc (suc (suc zero)))))) lt = refl
 next_place (suc (suc (suc (suc (suc (suc (suc zero))))))) lt = refl
 next_place (suc (suc (suc (suc (suc (suc (suc (suc i)))))))) lt = absurd (omega arith)
 
-pub first_place : {X : Type 0} (p : X → Bool) (f : ℕ → X) (i : ℕ) → i < 8 → p (f i) ≡ true → find p (map f (drop i places)) ≡ Some (f i)
+pub first_place : {X : Type 0} (p : X → Bool) (f : ℕ → X) (i : ℕ) → i < 8 → p (f i) ≡ true
+    → find p (map f (drop i places)) ≡ Some (f i)
 first_place p f i lt is = rw (next_place i lt, is) refl
 
-pub later_place : {X : Type 0} (p : X → Bool) (f : ℕ → X) (i : ℕ) → i < 8 → p (f i) ≡ false → find p (map f (drop i places)) ≡ find p (map f (drop (i + 1) places))
+pub later_place : {X : Type 0} (p : X → Bool) (f : ℕ → X) (i : ℕ) → i < 8 → p (f i) ≡ false
+    → find p (map f (drop i places)) ≡ find p (map f (drop (i + 1) places))
 later_place p f i lt is = rw (next_place i lt, is) refl
 
-pub found_here : {X Y : Type 0} (p : X → Bool) (f : Y → List X) (y : Y) (ys : List Y) (x : X) → find p (f y) ≡ Some x → find p (flat_map f (y ∷ ys)) ≡ Some x
+pub found_here : {X Y : Type 0} (p : X → Bool) (f : Y → List X) (y : Y) (ys : List Y) (x : X) → find p (f y) ≡ Some x
+    → find p (flat_map f (y ∷ ys)) ≡ Some x
 found_here p f y ys x is = rw (flat_map-cons f y ys, find-append p (f y) (flat_map f ys), is) refl
 
-pub found_later : {X Y : Type 0} (p : X → Bool) (f : Y → List X) (y : Y) (ys : List Y) → find p (f y) ≡ None → find p (flat_map f (y ∷ ys)) ≡ find p (flat_map f ys)
+pub found_later : {X Y : Type 0} (p : X → Bool) (f : Y → List X) (y : Y) (ys : List Y) → find p (f y) ≡ None
+    → find p (flat_map f (y ∷ ys)) ≡ find p (flat_map f ys)
 found_later p f y ys is = rw (flat_map-cons f y ys, find-append p (f y) (flat_map f ys), is) refl
 
 pub free_is : {X : Type 0} (r wanted : Option X) (b : Bool) → r ≡ wanted → is_some r ≡ not b → is_none wanted ≡ b

@@ -27,7 +27,8 @@ use Rattle.plain_schedule.proofs.TableSteps.{is_sound, sound}
 -- ---- the search for a free port
 
 pub passed : (s : Plain) (key : FlowKey) (n : ℕ) → IsSound s → AreFull s (end_of key) n
-    → find (is_free s.table s.opened) (flat_map (eight key) (rows_of (rows s) key.src n)) ≡ first_free s.table s.opened key
+    → find (is_free s.table s.opened) (flat_map (eight key) (rows_of (rows s) key.src n))
+    ≡ first_free s.table s.opened key
 passed s key n h full = past_full s key n (sound h) full
 
 pub goes_on : (s : Plain) (key : FlowKey) (n : ℕ) (row : Row) → IsSound s → AreFull s (end_of key) n

@@ -71,7 +71,8 @@ pub past : {X : Type 0} (p : X → Bool) (f : Row → List X) (m : Ip4) (above :
     → find p (flat_map f (rows_of rs m 0)) ≡ find p (flat_map f (rows_of rs m above))
 past p f m above [] none = refl
 past {X = X} p f m above (row ∷ rs) none =
-    by (nat_lt 0 row.n) (nat_lt above row.n) (row.machine.0 == m.0) refl refl refl (past p f m above rs (λ r i. none r (inr i)))
+    by (nat_lt 0 row.n) (nat_lt above row.n) (row.machine.0 == m.0) refl refl refl
+    (past p f m above rs (λ r i. none r (inr i)))
   where
     with : List Row → Option X
     with xs = find p (flat_map f xs)
@@ -86,11 +87,15 @@ past {X = X} p f m above (row ∷ rs) none =
         let low : row.n ≤ above = grind (arith, nat_tests) in
         found_later p f row (rows_of rs m 0) (none row (inl refl) is low) ∙ rest
     by true false false l h is rest = rest
-    by false true mine l h is rest = absurd (let a : row.n ≤ 0 = grind (arith, nat_tests) in let b : above < row.n = grind (arith, nat_tests) in omega arith)
+    by false true mine l h is rest =
+        let none : row.n ≤ 0 = grind (arith, nat_tests) in
+        let some : above < row.n = grind (arith, nat_tests) in
+        absurd (omega arith)
     by false false mine l h is rest = rest
 
 pub past_full : (s : Plain) (key : FlowKey) (n : ℕ) → Sound s → AreFull s (end_of key) n
-    → find (is_free s.table s.opened) (flat_map (eight key) (rows_of (rows s) key.src n)) ≡ first_free s.table s.opened key
+    → find (is_free s.table s.opened) (flat_map (eight key) (rows_of (rows s) key.src n))
+    ≡ first_free s.table s.opened key
 past_full s key n h full =
     sym (past (is_free s.table s.opened) (eight key) key.src n (rows s) (λ row i mine low.
     full_none s key row (full.full row i (address_is row.machine key.src (number_is _ _ mine)) low)
@@ -120,9 +125,18 @@ row_aligned s row h there =
 one_row : (rs : List Row) (a b : Row) → OwnRanges rs → In a rs → In b rs → a.range ≡ b.range → a ≡ b
 one_row [] a b own i j e = absurd i
 one_row (r ∷ rs) a b own i j e = elim i [
-  | inl p ↦ elim j [ inl q ↦ sym p ∙ q | inr y ↦ absurd (each_in (λ (x : Row). r.range ≢ x.range) rs b own.0 y (ap (λ (x : Row). x.range) p ∙ e)) ]
-  | inr x ↦ elim j [ inl q ↦ absurd (each_in (λ (x : Row). r.range ≢ x.range) rs a own.0 x (ap (λ (x : Row). x.range) q ∙ sym e)) | inr y ↦ one_row rs a b own.1 x y e ]
+  | inl p ↦ elim j [
+    | inl q ↦ sym p ∙ q
+    | inr y ↦ absurd (apart b y (ap (λ (x : Row). x.range) p ∙ e))
+  ]
+  | inr x ↦ elim j [
+    | inl q ↦ absurd (apart a x (ap (λ (x : Row). x.range) q ∙ sym e))
+    | inr y ↦ one_row rs a b own.1 x y e
+  ]
 ]
+  where
+    apart : (x : Row) → In x rs → r.range ≢ x.range
+    apart x i = each_in (λ (x : Row). r.range ≢ x.range) rs x own.0 i
 
 range_is : (a b : Range) → a.vip ≡ b.vip → a.start ≡ b.start → a ≡ b
 range_is a b vip start =
@@ -133,6 +147,9 @@ range_is a b vip start =
 same_start : (a b i : ℕ) → a % 8 ≡ 0 → b % 8 ≡ 0 → i ≤ 7 → a ≤ b + i → b + i ≤ a + 7 → a ≡ b
 same_start a b i p q small low high = omega arith
 
+within : (start i : ℕ) → i ≤ 7 → start + 7 ≤ 65535 → min (start + i) 65535 ≡ start + i
+within start i small fits = omega arith
+
 -- a connection that stands on a port of a lease is that lease's
 of_lease : (s : Plain) (e : RemoteEnd) (row : Row) (i : ℕ) (c : Connection) → Sound s → In row (rows s) → i ≤ 7
     → In c s.opened → Stands (rows s) c → c.public ≡ public_at e row i → c.n ≡ row.n
@@ -141,7 +158,7 @@ of_lease s e row i c h there small opened st at =
     let held : In t.row (rows s) = found_in (λ (r : Row). r.n == c.n) (rows s) t.row t.there in
     let fits : row.range.start + 7 ≤ 65535 = row_fits s row h there in
     let port : c.public.sport ≡ row.range.start + i
-    = ap (λ (k : FlowKey). k.sport) at ∙ (let m : min (row.range.start + i) 65535 ≡ row.range.start + i = omega arith in m) in
+    = ap (λ (k : FlowKey). k.sport) at ∙ within row.range.start i small fits in
     let first = t.first in
     let last = t.last in
     let start : t.row.range.start ≡ row.range.start
@@ -160,12 +177,14 @@ taken_by s e row i (Some c) h there small is taken =
     let there_c : In c s.opened × (has_public (public_at e row i) c ≡ true)
     = newest_in (has_public (public_at e row i)) s.opened c is in
     ap (λ (n : ℕ). some n)
-    (of_lease s e row i c h there small there_c.0 (stands (is_some (row_at (rows s) c.n)) refl taken) (key_is c.public (public_at e row i) there_c.1))
+    (of_lease s e row i c h there small there_c.0 (stands (is_some (row_at (rows s) c.n)) refl taken)
+    (key_is c.public (public_at e row i) there_c.1))
   where
     some : ℕ → Option ℕ
     some n = Some n
 
-    stands : (b : Bool) → is_some (row_at (rows s) c.n) ≡ b → is_none (cond b (Some c) None) ≡ false → is_some (row_at (rows s) c.n) ≡ true
+    stands : (b : Bool) → is_some (row_at (rows s) c.n) ≡ b → is_none (cond b (Some c) None) ≡ false
+        → is_some (row_at (rows s) c.n) ≡ true
     stands true st e = st
     stands false st e = absurd (cc)
 
@@ -174,11 +193,13 @@ pub none_full : (s : Plain) (key : FlowKey) (row : Row) → Sound s → In row (
 none_full s key row h there none =
     each_both places places_small (each_fails (is_free s.table s.opened) (through row key) places none)
   where
-    each_both : (is : List ℕ) → Each (λ i. i ≤ 7) is → Each (λ i. is_free s.table s.opened (through row key i) ≡ false) is
+    each_both : (is : List ℕ) → Each (λ i. i ≤ 7) is
+        → Each (λ i. is_free s.table s.opened (through row key i) ≡ false) is
         → Each (λ i. lease_of (newest (has_public (public_at (end_of key) row i)) s.opened) ≡ Some row.n) is
     each_both [] small taken = tt
     each_both (i ∷ is) small taken = (
-      taken_by s (end_of key) row i (newest (has_public (public_at (end_of key) row i)) s.opened) h there small.0 refl taken.0,
+      taken_by s (end_of key) row i (newest (has_public (public_at (end_of key) row i)) s.opened) h there small.0 refl
+          taken.0,
       each_both is small.1 taken.1,
     )
 
@@ -202,7 +223,8 @@ one_more_full s key n row h full next none = record {
         elim (subst (In r) next (in_filter (λ x. nat_lt n x.n && (x.machine.0 == key.src.0)) (rows s) r i passes)) [
           | inl same ↦ subst (IsFull s.opened (end_of key)) same (none_full s key row h here none)
           | inr later ↦ absurd (
-              let passes : (nat_lt row.n r.n && (r.machine.0 == key.src.0)) ≡ true = (in_filter_back _ (rows s) r later).1 in
+              let passes : (nat_lt row.n r.n && (r.machine.0 == key.src.0)) ≡ true
+              = (in_filter_back _ (rows s) r later).1 in
               let more : row.n < r.n = grind (arith, nat_tests) in omega arith)
         ]
 
@@ -222,7 +244,8 @@ full_table s u e n same g h k full = record {
   old = (let old = full.old in let up = g.rises in omega arith);
 }
   where
-    before : (row : Row) → row.machine ≡ e.machine → row.n ≤ n → row_at (rows u) row.n ≡ Some row → IsFull u.opened e row
+    before : (row : Row) → row.machine ≡ e.machine → row.n ≤ n → row_at (rows u) row.n ≡ Some row
+        → IsFull u.opened e row
     before row mine low there =
         let old = full.old in
         let b : (was : Row) × (row_at (rows s) row.n ≡ Some was) × SameLease was row
@@ -232,8 +255,9 @@ full_table s u e n same g h k full = record {
         let is : IsFull s.opened e was
         = full.full was (found_in (λ (r : Row). r.n == row.n) (rows s) was b.1) (b.2.machine ∙ mine) (omega arith) in
         subst (λ (os : List Connection). IsFull os e row) (sym same)
-        (subst (λ (r : Range). Each (λ i. lease_of (newest (has_public (record (public_at e row i) { src = r.vip; sport = min (r.start + i) 65535 })) s.opened) ≡ Some row.n) places) b.2.range
-        (subst (λ (m : ℕ). Each (λ i. lease_of (newest (has_public (public_at e was i)) s.opened) ≡ Some m) places) number is))
+        (subst (λ (r : Range). IsFull s.opened e (record row { range = r })) b.2.range
+        (subst (λ (m : ℕ). Each (λ i. lease_of (newest (has_public (public_at e was i)) s.opened) ≡ Some m) places)
+        number is))
 
 -- while a connection opens
 pub full_opens : (s : Plain) (c : Connection) (e : RemoteEnd) (n : ℕ) → Sound s → IsNew s c → AreFull s e n
@@ -255,7 +279,8 @@ full_opens s c e n h new full = record {
             → lease_of (cond b (Some c) (newest (has_public (public_at e row i)) s.opened)) ≡ Some row.n
         by true same =
             let here : with_public s.table s.opened (public_at e row i) ≡ None
-            = subst (λ (k : FlowKey). with_public s.table s.opened k ≡ None) (key_is c.public (public_at e row i) same) new.public in
+            = subst (λ (k : FlowKey). with_public s.table s.opened k ≡ None) (key_is c.public (public_at e row i) same)
+            new.public in
             let taken : is_none (with_public s.table s.opened (public_at e row i)) ≡ false
             = lease_stands (rows s) (newest (has_public (public_at e row i)) s.opened) row.n is st in
             absurd (let free : true ≡ false = sym (ap is_none here) ∙ taken in cc)

@@ -37,10 +37,10 @@ five src dst sport dport proto = record { src = src; dst = dst; sport = sport; d
 -- keys with the same five numbers are one
 pub key_is : (a b : FlowKey) → same_key a b ≡ true → a ≡ b
 key_is a b e =
-    let h : ((a.src.0 == b.src.0) ≡ true) × (((a.dst.0 == b.dst.0) && ((a.sport == b.sport) && ((a.dport == b.dport) && same_proto a.proto b.proto))) ≡ true) = both _ _ e in
-    let i : ((a.dst.0 == b.dst.0) ≡ true) × (((a.sport == b.sport) && ((a.dport == b.dport) && same_proto a.proto b.proto)) ≡ true) = both _ _ h.1 in
-    let j : ((a.sport == b.sport) ≡ true) × (((a.dport == b.dport) && same_proto a.proto b.proto) ≡ true) = both _ _ i.1 in
-    let k : ((a.dport == b.dport) ≡ true) × (same_proto a.proto b.proto ≡ true) = both _ _ j.1 in
+    let h = both _ _ e in
+    let i = both _ _ h.1 in
+    let j = both _ _ i.1 in
+    let k = both _ _ j.1 in
     ap (λ (x : Ip4). five x a.dst a.sport a.dport a.proto) (address_is a.src b.src (number_is _ _ h.0))
     ∙ ap (λ (x : Ip4). five b.src x a.sport a.dport a.proto) (address_is a.dst b.dst (number_is _ _ i.0))
     ∙ ap (λ (x : ℕ). five b.src b.dst x a.dport a.proto) (number_is _ _ j.0)
@@ -48,4 +48,5 @@ key_is a b e =
     ∙ ap (λ (x : Proto). five b.src b.dst b.sport b.dport x) (proto_is _ _ k.1)
 
 pub key_same : (a : FlowKey) → same_key a a ≡ true
-key_same a = rw (number_same a.src.0, number_same a.dst.0, number_same a.sport, number_same a.dport, proto_same a.proto) refl
+key_same a =
+    rw (number_same a.src.0, number_same a.dst.0, number_same a.sport, number_same a.dport, proto_same a.proto) refl

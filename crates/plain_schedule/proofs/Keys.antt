@@ -18,7 +18,10 @@ proto_eq Udp Tcp = refl
 proto_eq Udp Udp = refl
 
 key_eq : (a b : FlowKey) → flow.ghosts.eq a b ≡ same_key a b
-key_eq a b = ap (λ (p : Bool). (a.src.0 == b.src.0) && ((a.dst.0 == b.dst.0) && ((a.sport == b.sport) && ((a.dport == b.dport) && p)))) (proto_eq a.proto b.proto)
+key_eq a b =
+    ap (λ (p : Bool).
+    (a.src.0 == b.src.0) && ((a.dst.0 == b.dst.0) && ((a.sport == b.sport) && ((a.dport == b.dport) && p))))
+    (proto_eq a.proto b.proto)
 
 pub key_eq_is : flow.ghosts.eq ≡ same_key
 key_eq_is = fun_ext (λ a. fun_ext (λ b. key_eq a b))

@@ -26,7 +26,8 @@ use Rattle.plain_schedule.proofs.Kept.{rows, some_is}
 pub standing_is : (rs : List Row) (c : Connection) → Stands rs c → standing rs (Some c) ≡ Some c
 standing_is rs c st = rw st refl
 
-pub standing_some : (rs : List Row) (o : Option Connection) (c : Connection) → standing rs o ≡ Some c → (o ≡ Some c) × Stands rs c
+pub standing_some : (rs : List Row) (o : Option Connection) (c : Connection) → standing rs o ≡ Some c
+    → (o ≡ Some c) × Stands rs c
 standing_some rs None c e = absurd (cc)
 standing_some rs (Some d) c e = by (is_some (row_at rs d.n)) refl e
   where
@@ -48,7 +49,10 @@ pub record IsNew (s : Plain) (c : Connection) : Type 0 where
   pub private : with_private s.table s.opened c.private ≡ None
 
 pub places_small : Each (λ i. i ≤ 7) places
-places_small = (omega arith, (omega arith, (omega arith, (omega arith, (omega arith, (omega arith, (omega arith, (omega arith, tt))))))))
+places_small = (
+  omega arith,
+  (omega arith, (omega arith, (omega arith, (omega arith, (omega arith, (omega arith, (omega arith, tt))))))),
+)
 
 pub none_is : (o : Option Connection) → is_none o ≡ true → o ≡ None
 none_is None e = refl
@@ -58,11 +62,16 @@ none_is (Some c) e = absurd (cc)
 pub leasable_fits : (vips : List VipRule) (vip : Ip4) (first : ℕ) → Each (λ rule. rule.high ≤ 65535) vips
     → list_any (λ rule. (rule.vip.0 == vip.0) && allows rule first) vips ≡ true → first + 7 ≤ 65535
 leasable_fits [] vip first high e = absurd (cc)
-leasable_fits (rule ∷ rules) vip first high e = by ((rule.vip.0 == vip.0) && allows rule first) refl e (leasable_fits rules vip first high.1)
+leasable_fits (rule ∷ rules) vip first high e =
+    by ((rule.vip.0 == vip.0) && allows rule first) refl e (leasable_fits rules vip first high.1)
   where
-    by : (b : Bool) → ((rule.vip.0 == vip.0) && allows rule first) ≡ b → (b || list_any (λ rule. (rule.vip.0 == vip.0) && allows rule first) rules) ≡ true
-        → (list_any (λ rule. (rule.vip.0 == vip.0) && allows rule first) rules ≡ true → first + 7 ≤ 65535) → first + 7 ≤ 65535
-    by true is e rest = let within : nat_le (first + 7) rule.high ≡ true = grind arith in let top : rule.high ≤ 65535 = high.0 in grind (arith, nat_tests)
+    by : (b : Bool) → ((rule.vip.0 == vip.0) && allows rule first) ≡ b
+        → (b || list_any (λ rule. (rule.vip.0 == vip.0) && allows rule first) rules) ≡ true
+        → (list_any (λ rule. (rule.vip.0 == vip.0) && allows rule first) rules ≡ true → first + 7 ≤ 65535)
+        → first + 7 ≤ 65535
+    by true is e rest =
+        let within : nat_le (first + 7) rule.high ≡ true = grind arith in
+        let top : rule.high ≤ 65535 = high.0 in grind (arith, nat_tests)
     by false is e rest = rest e
 
 pub through_new : (s : Plain) (key : FlowKey) (row : Row) (i : ℕ) → is_some (rule_of s.table.rules key.src) ≡ true
@@ -113,21 +122,30 @@ with_one s c = record s { opened = s.opened ++ c ∷ [] }
 pub newest_one : (s : Plain) (key : Connection → FlowKey) (c : Connection)
     → ((d : Connection) → In d s.opened → Stands (rows s) d → newest (λ x. same_key (key x) (key d)) s.opened ≡ Some d)
     → standing (rows s) (newest (λ x. same_key (key x) (key c)) s.opened) ≡ None
-    → (d : Connection) → In d (s.opened ++ c ∷ []) → Stands (rows s) d → newest (λ x. same_key (key x) (key d)) (s.opened ++ c ∷ []) ≡ Some d
+    → (d : Connection) → In d (s.opened ++ c ∷ []) → Stands (rows s) d
+    → newest (λ x. same_key (key x) (key d)) (s.opened ++ c ∷ []) ≡ Some d
 newest_one s key c old free d i st = elim (in_cases s.opened (c ∷ []) d i) [
-  | inl there ↦ newest-more (λ x. same_key (key x) (key d)) s.opened c ∙ by (same_key (key c) (key d)) refl (old d there st)
+  | inl there ↦
+      newest-more (λ x. same_key (key x) (key d)) s.opened c ∙ by (same_key (key c) (key d)) refl (old d there st)
   | inr here ↦ elim here [ inl e ↦ newest-more (λ x. same_key (key x) (key d)) s.opened c ∙ mine e | inr j ↦ absurd j ]
 ]
   where
-    by : (b : Bool) → same_key (key c) (key d) ≡ b → newest (λ x. same_key (key x) (key d)) s.opened ≡ Some d → cond b (Some c) (newest (λ x. same_key (key x) (key d)) s.opened) ≡ Some d
+    by : (b : Bool) → same_key (key c) (key d) ≡ b → newest (λ x. same_key (key x) (key d)) s.opened ≡ Some d
+        → cond b (Some c) (newest (λ x. same_key (key x) (key d)) s.opened) ≡ Some d
     by true is was = absurd (clash (key_is (key c) (key d) is) was)
       where
         clash : key c ≡ key d → newest (λ x. same_key (key x) (key d)) s.opened ≡ Some d → ⊥
-        clash e was = none_some (sym (subst (λ (k : FlowKey). standing (rows s) (newest (λ x. same_key (key x) k) s.opened) ≡ None) e free) ∙ ap (standing (rows s)) was ∙ standing_is (rows s) d st)
+        clash e was =
+            none_some
+            (sym (subst (λ (k : FlowKey). standing (rows s) (newest (λ x. same_key (key x) k) s.opened) ≡ None) e free)
+            ∙ ap (standing (rows s)) was ∙ standing_is (rows s) d st)
     by false is was = was
 
     mine : c ≡ d → cond (same_key (key c) (key d)) (Some c) (newest (λ x. same_key (key x) (key d)) s.opened) ≡ Some d
-    mine e = let same : same_key (key c) (key d) ≡ true = subst (λ (x : Connection). same_key (key c) (key x) ≡ true) e (key_same (key c)) in rw (same, e) refl
+    mine e =
+        let same : same_key (key c) (key d) ≡ true
+        = subst (λ (x : Connection). same_key (key c) (key x) ≡ true) e (key_same (key c)) in
+        rw (same, e) refl
 
 pub sound_opens : (s : Plain) (c : Connection) → Sound s → IsNew s c → Sound (with_one s c)
 sound_opens s c h new = record {
@@ -147,7 +165,9 @@ sound_opens s c h new = record {
   public = newest_one s (λ x. x.public) c h.public new.public;
   private = newest_one s (λ x. x.private) c h.private new.private;
   holders = λ d i st. elim (in_cases s.opened (c ∷ []) d i) [
-    | inl there ↦ let t : IsThrough s d = h.holders d there st in record { row = t.row; there = t.there; machine = t.machine; vip = t.vip; first = t.first; last = t.last }
+    | inl there ↦
+        let t : IsThrough s d = h.holders d there st in
+        record { row = t.row; there = t.there; machine = t.machine; vip = t.vip; first = t.first; last = t.last }
     | inr here ↦ elim here [ inl e ↦ subst (IsThrough (with_one s c)) e mine | inr j ↦ absurd j ]
   ];
 }
@@ -155,7 +175,9 @@ sound_opens s c h new = record {
     mine : IsThrough (with_one s c) c
     mine = record {
       row = new.row;
-      there = subst (λ (n : ℕ). row_at (rows s) n ≡ Some new.row) (sym new.number) (own_row (rows s) new.row h.numbers new.there);
+      there =
+          subst (λ (n : ℕ). row_at (rows s) n ≡ Some new.row) (sym new.number)
+          (own_row (rows s) new.row h.numbers new.there);
       machine = new.machine;
       vip = new.vip;
       first = new.first;

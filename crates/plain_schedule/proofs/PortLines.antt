@@ -23,22 +23,33 @@ IsPort other = Unit {0}
 pub number_within : (text : List ℕ) (n : ℕ) → number_of 65535 text ≡ Some n → n ≤ 65535
 number_within text n e = by (is_numeral text && nat_le (digits_value 10 text) 65535) refl e
   where
-    by : (b : Bool) → (is_numeral text && nat_le (digits_value 10 text) 65535) ≡ b → cond b (Some (digits_value 10 text)) None ≡ Some n → n ≤ 65535
-    by true is e = let low : nat_le (digits_value 10 text) 65535 ≡ true = (both (is_numeral text) (nat_le (digits_value 10 text) 65535) is).1 in let same : digits_value 10 text ≡ n = some_is _ n e in grind (arith, nat_tests)
+    by : (b : Bool) → (is_numeral text && nat_le (digits_value 10 text) 65535) ≡ b
+        → cond b (Some (digits_value 10 text)) None ≡ Some n → n ≤ 65535
+    by true is e =
+        let low : nat_le (digits_value 10 text) 65535 ≡ true
+        = (both (is_numeral text) (nat_le (digits_value 10 text) 65535) is).1 in
+        let same : digits_value 10 text ≡ n = some_is _ n e in grind (arith, nat_tests)
     by false is e = none_some e
 
-pub bind_port : {A : Type 0} (o : Option A) (f : A → Option Line) → ((x : A) → o ≡ Some x → IsPort (f x)) → IsPort (o >>= f)
+pub bind_port : {A : Type 0} (o : Option A) (f : A → Option Line) → ((x : A) → o ≡ Some x → IsPort (f x))
+    → IsPort (o >>= f)
 bind_port None f k = tt
 bind_port (Some x) f k = k x refl
 
 pub port_vip : (fields : List (List ℕ)) → IsPort (vip_line fields)
 unfolding vip_line
-port_vip fields = bind_port (three_of fields) _ (λ w _. bind_port (address_of w.0) _ (λ vip _. bind_port (number_of 65535 w.1) _ (λ low _. bind_port (number_of 65535 w.2) _
+port_vip fields =
+    bind_port (three_of fields) _
+    (λ w _. bind_port (address_of w.0) _
+    (λ vip _. bind_port (number_of 65535 w.1) _
+    (λ low _. bind_port (number_of 65535 w.2) _
     (λ high e. by_if IsPort (are_bounds low high) (λ _. number_within w.2 high e) (λ _. tt)))))
 
 pub port_ask : (fields : List (List ℕ)) → IsPort (ask_fields fields)
 unfolding ask_fields
-port_ask fields = bind_port (two_of fields) _ (λ w _. bind_port (address_of w.0) _ (λ vip _. bind_port (address_of w.1) _ (λ machine _. tt)))
+port_ask fields =
+    bind_port (two_of fields) _
+    (λ w _. bind_port (address_of w.0) _ (λ vip _. bind_port (address_of w.1) _ (λ machine _. tt)))
 
 pub port_return : (fields : List (List ℕ)) → IsPort (return_line fields)
 unfolding return_line
@@ -61,4 +72,5 @@ port_word (word ∷ fields) = by_if IsPort (bytes_eq word (codes "packet")) (λ 
     (λ _. by_if IsPort (bytes_eq word (codes "return")) (λ _. port_return fields) (λ _. tt)))))
 
 pub port_line : (text : List ℕ) → IsPort (line_of text)
-port_line text = by_if IsPort ((length text == 0) || (slice_index text 0 == 35)) (λ _. tt) (λ _. port_word (parts 32 text))
+port_line text =
+    by_if IsPort ((length text == 0) || (slice_index text 0 == 35)) (λ _. tt) (λ _. port_word (parts 32 text))

@@ -112,7 +112,8 @@ sound_outgoing : (s : Plain) (key : FlowKey) → Sound s
 sound_outgoing s key h =
     by_if (λ (x : List Connection × Result Connection DropCause). Sound (record s { opened = x.0 }))
     (is_none (rule_of s.table.rules key.src)) (λ _. h)
-    (λ is. sound_takes s key (with_private s.table s.opened key) (is_not_none (rule_of s.table.rules key.src) is) refl h)
+    (λ is.
+    sound_takes s key (with_private s.table s.opened key) (is_not_none (rule_of s.table.rules key.src) is) refl h)
 
 sound_sent : (s : Plain) (r : Result (List ℕ) PacketFault) → Sound s
     → Sound (record s { opened = (sent s.table s.opened r).0 })
@@ -151,28 +152,40 @@ takes_own s c h a =
     rw (is_not_some (rule_of s.table.rules c.private.src) known, found) refl
 
 public_one : (s : Plain) (c d : Connection) → Sound s → IsLive s c → IsLive s d → c.public ≡ d.public → c ≡ d
-public_one s c d h a b same = some_is c d (sym (h.public c a.opened a.stands) ∙ ap (λ (k : FlowKey). newest (has_public k) s.opened) same ∙ h.public d b.opened b.stands)
+public_one s c d h a b same =
+    some_is c d
+    (sym (h.public c a.opened a.stands) ∙ ap (λ (k : FlowKey). newest (has_public k) s.opened) same
+    ∙ h.public d b.opened b.stands)
 
-reply_is : (s : Plain) (c : Connection) (ttl : ℕ) (key : FlowKey) → incoming s.table s.opened ttl key ≡ Ok c → IsLive s c × (c.public ≡ reverse key)
+reply_is : (s : Plain) (c : Connection) (ttl : ℕ) (key : FlowKey) → incoming s.table s.opened ttl key ≡ Ok c
+    → IsLive s c × (c.public ≡ reverse key)
 reply_is s c ttl key e = by (nat_le ttl 1) e
   where
-    from : (o : Option Connection) → with_public s.table s.opened (reverse key) ≡ o → or_none o ≡ Ok c → IsLive s c × (c.public ≡ reverse key)
+    from : (o : Option Connection) → with_public s.table s.opened (reverse key) ≡ o → or_none o ≡ Ok c
+        → IsLive s c × (c.public ≡ reverse key)
     from None is e = absurd (cc)
     from (Some d) is e =
         let same : d ≡ c = cc in
-        let found : (newest (has_public (reverse key)) s.opened ≡ Some d) × Stands (rows s) d = standing_some (rows s) (newest (has_public (reverse key)) s.opened) d is in
-        let there : In d s.opened × (has_public (reverse key) d ≡ true) = newest_in (has_public (reverse key)) s.opened d found.0 in
-        subst (λ (x : Connection). IsLive s x × (x.public ≡ reverse key)) same (record { opened = there.0; stands = found.1 }, key_is d.public (reverse key) there.1)
+        let found : (newest (has_public (reverse key)) s.opened ≡ Some d) × Stands (rows s) d = standing_some (rows s)
+        (newest (has_public (reverse key)) s.opened) d is in
+        let there : In d s.opened × (has_public (reverse key) d ≡ true) = newest_in (has_public (reverse key)) s.opened
+        d found.0 in
+        subst (λ (x : Connection). IsLive s x × (x.public ≡ reverse key)) same
+        (record { opened = there.0; stands = found.1 }, key_is d.public (reverse key) there.1)
 
-    by : (b : Bool) → cond b (Err TtlOut) (or_none (with_public s.table s.opened (reverse key))) ≡ Ok c → IsLive s c × (c.public ≡ reverse key)
+    by : (b : Bool) → cond b (Err TtlOut) (or_none (with_public s.table s.opened (reverse key))) ≡ Ok c
+        → IsLive s c × (c.public ≡ reverse key)
     by true e = absurd (cc)
     by false e = from (with_public s.table s.opened (reverse key)) refl e
 
-reply_reaches : (s : Plain) (c : Connection) (ttl : ℕ) (key : FlowKey) → Sound s → IsLive s c → c.public ≡ reverse key → 1 < ttl → incoming s.table s.opened ttl key ≡ Ok c
+reply_reaches : (s : Plain) (c : Connection) (ttl : ℕ) (key : FlowKey) → Sound s → IsLive s c → c.public ≡ reverse key
+    → 1 < ttl → incoming s.table s.opened ttl key ≡ Ok c
 reply_reaches s c ttl key h live same more =
     let late : nat_le ttl 1 ≡ false = grind (arith, nat_tests) in
-    let found : newest (has_public (reverse key)) s.opened ≡ Some c = subst (λ (k : FlowKey). newest (has_public k) s.opened ≡ Some c) same (h.public c live.opened live.stands) in
-    let stands : with_public s.table s.opened (reverse key) ≡ Some c = ap (standing (rows s)) found ∙ standing_is (rows s) c live.stands in
+    let found : newest (has_public (reverse key)) s.opened ≡ Some c = subst
+    (λ (k : FlowKey). newest (has_public k) s.opened ≡ Some c) same (h.public c live.opened live.stands) in
+    let stands : with_public s.table s.opened (reverse key) ≡ Some c = ap (standing (rows s)) found
+    ∙ standing_is (rows s) c live.stands in
     rw (late, stands) refl
 
 safe_of : (s : Plain) → Sound s → IsSafe s
@@ -192,9 +205,12 @@ safe_of s h = record {
 safe_from : (lines : List (List ℕ)) (s : Plain) (n : ℕ) → Sound s → Each IsSafe (moments_from s n lines)
 unfolding moments_from
 safe_from [] s n h = (safe_of s h, tt)
-safe_from (line ∷ lines) s n h = (safe_of s h, on (line_step n s line) (sound_line n s line h) (λ after k. safe_from lines after (n + 1) k))
+safe_from (line ∷ lines) s n h =
+    (safe_of s h, on (line_step n s line) (sound_line n s line h) (λ after k. safe_from lines after (n + 1) k))
   where
-    on : (o : Option (Plain × List ℕ)) → IfGood o → ((after : Plain) → Sound after → Each IsSafe (moments_from after (n + 1) lines)) → Each IsSafe (moments_after o (λ after. moments_from after (n + 1) lines))
+    on : (o : Option (Plain × List ℕ)) → IfGood o
+        → ((after : Plain) → Sound after → Each IsSafe (moments_from after (n + 1) lines))
+        → Each IsSafe (moments_after o (λ after. moments_from after (n + 1) lines))
     on None good k = tt
     on (Some after) good k = k after.0 good
 

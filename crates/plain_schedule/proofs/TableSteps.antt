@@ -103,7 +103,8 @@ pub kept_by : (t u : TableState) (opened : List Connection) (full : FullLeases) 
 kept_by t u opened full keeps k = keeps.on opened full k
 
 pub keeps_same : (t u : TableState) → u ≡ t → Keeps t u
-keeps_same t u same = record { on = λ opened full k. subst (λ (x : TableState). IsKept (plain x opened) full) (sym same) k }
+keeps_same t u same =
+    record { on = λ opened full k. subst (λ (x : TableState). IsKept (plain x opened) full) (sym same) k }
 
 pub keeps_then : (t u v : TableState) → Keeps t u → Keeps u v → Keeps t v
 keeps_then t u v a b = record { on = λ opened full k. b.on opened full (a.on opened full k) }

@@ -15,7 +15,10 @@ same_proto Udp Udp = true
 
 -- all five numbers are the same
 abbrev pub same_key : FlowKey → FlowKey → Bool
-same_key a b = (a.src.0 == b.src.0) && ((a.dst.0 == b.dst.0) && ((a.sport == b.sport) && ((a.dport == b.dport) && same_proto a.proto b.proto)))
+same_key a b =
+    (a.src.0 == b.src.0)
+    && ((a.dst.0 == b.dst.0)
+    && ((a.sport == b.sport) && ((a.dport == b.dport) && same_proto a.proto b.proto)))
 
 -- the last of the list that is of this kind
 abbrev pub newest : (Connection → Bool) → List Connection → Option Connection

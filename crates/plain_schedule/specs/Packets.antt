@@ -29,7 +29,11 @@ with_public t opened key = standing t.leases.rows (newest (has_public key) opene
 
 -- the connection that the i-th port of a lease would carry; ports end at 65535
 abbrev pub through : Row → FlowKey → ℕ → Connection
-through row key i = record { private = key; public = record key { src = row.range.vip; sport = min (row.range.start + i) 65535 }; n = row.n }
+through row key i = record {
+  private = key;
+  public = record key { src = row.range.vip; sport = min (row.range.start + i) 65535 };
+  n = row.n;
+}
 
 abbrev pub places : List ℕ
 places = 0 ∷ 1 ∷ 2 ∷ 3 ∷ 4 ∷ 5 ∷ 6 ∷ 7 ∷ []
@@ -50,7 +54,8 @@ abbrev pub opens : List Connection → Option Connection → List Connection × 
 opens opened None = (opened, Err NoLease)
 opens opened (Some c) = (opened ++ c ∷ [], Ok c)
 
-abbrev pub takes : TableState → List Connection → FlowKey → Option Connection → List Connection × Result Connection DropCause
+abbrev pub takes : TableState → List Connection → FlowKey → Option Connection
+    → List Connection × Result Connection DropCause
 takes t opened key None = opens opened (first_free t opened key)
 takes t opened key (Some c) = (opened, Ok c)
 

@@ -37,7 +37,8 @@ pub record IsLive (s : Plain) (c : Connection) : Type 0 where
   pub opened : In c s.opened
   pub stands : is_some (row_at s.table.leases.rows c.n) ≡ true
 
--- Its machine holds the range of its public end: the row of its lease is that machine's, and the port is one of its eight.
+-- Its machine holds the range of its public end: the row of its lease is that machine's, and the port is one of its
+-- eight.
 pub record IsThrough (s : Plain) (c : Connection) : Type 0 where
   pub row : Row
   pub there : row_at s.table.leases.rows c.n ≡ Some row
@@ -50,7 +51,7 @@ pub record IsSafe (s : Plain) : Type 0 where
   -- no two leases are on one range, and each is on a leasable one
   pub ranges : OwnRanges s.table.leases.rows
   pub leasable : AllLeasable s.table.rules s.table.leases.rows
-  -- no two live connections share a translated end, and none share a machine's end
+  -- no two live connections share the five numbers of the packets that leave, nor those of their machine's packets
   pub ends : (c d : Connection) → IsLive s c → IsLive s d → c.public ≡ d.public → c ≡ d
   pub flows : (c d : Connection) → IsLive s c → IsLive s d → c.private ≡ d.private → c ≡ d
   -- a machine's packet takes the live connection that it has
@@ -58,9 +59,11 @@ pub record IsSafe (s : Plain) : Type 0 where
   -- a live connection goes through a port that its machine holds
   pub holders : (c : Connection) → IsLive s c → IsThrough s c
   -- a reply goes to the machine of a live connection with its five numbers reversed, so to the one that opened it
-  pub replies : (c : Connection) (ttl : ℕ) (key : FlowKey) → incoming s.table s.opened ttl key ≡ Ok c → IsLive s c × (c.public ≡ reverse key)
+  pub replies : (c : Connection) (ttl : ℕ) (key : FlowKey)
+      → incoming s.table s.opened ttl key ≡ Ok c → IsLive s c × (c.public ≡ reverse key)
   -- and where there is one, it gets the reply, if that may take one more hop
-  pub reaches : (c : Connection) (ttl : ℕ) (key : FlowKey) → IsLive s c → c.public ≡ reverse key → 1 < ttl → incoming s.table s.opened ttl key ≡ Ok c
+  pub reaches : (c : Connection) (ttl : ℕ) (key : FlowKey) → IsLive s c → c.public ≡ reverse key → 1 < ttl
+      → incoming s.table s.opened ttl key ≡ Ok c
 
 -- Whatever the text says, each moment is safe.
 abbrev pub IsAlwaysSafe : List ℕ → Type 0

@@ -48,7 +48,8 @@ seq_after (Some last) = min (last.seq + 1) (2 ^ 64 - 1)
 
 -- what a Reserve did
 abbrev pub effect_text : Effect → List ℕ
-effect_text (effect.Reserved row) = codes "leased " ++ decimal row.n ++ codes " " ++ decimal row.range.start ++ codes "\n"
+effect_text (effect.Reserved row) =
+    codes "leased " ++ decimal row.n ++ codes " " ++ decimal row.range.start ++ codes "\n"
 effect_text (effect.Exhausted machine boot seq place) = codes "exhausted " ++ decimal place ++ codes "\n"
 effect_text other = []
 
@@ -82,7 +83,8 @@ named t vip low high =
 -- An ask names a VIP that is known, and a machine that is no VIP.
 abbrev pub ask_line : TableState → Ip4 → Ip4 → Option (TableState × List ℕ)
 ask_line t vip machine =
-    if not (has_vip t.rules vip) || has_vip t.rules machine then None else ask_by t vip machine (rule_of t.rules machine)
+    if not (has_vip t.rules vip) || has_vip t.rules machine then None
+    else ask_by t vip machine (rule_of t.rules machine)
 
 -- a line that concerns the table alone
 abbrev pub at_table : Plain → Option (TableState × List ℕ) → Option (Plain × List ℕ)
@@ -123,7 +125,9 @@ lines_from s n (line ∷ lines) = and_then n (line_step n s line) (λ after. lin
 
 -- a text without the end of its last line
 abbrev pub without_end : List ℕ → List ℕ
-without_end text = if nat_lt 0 (length text) && (slice_index text (length text - 1) == 10) then take (length text - 1) text else text
+without_end text =
+    if nat_lt 0 (length text) && (slice_index text (length text - 1) == 10) then take (length text - 1) text
+    else text
 
 abbrev pub plain_from : List (List ℕ) → Result (List ℕ) ℕ
 plain_from [] = Err 1

@@ -62,8 +62,8 @@ fn free_in(table: &Table, opened: &Connections, key: &FlowKey, row: &Row) -> Opt
     None
 }
 
-/// The first free port over the machine's leases, those up to this number being full. Beside it the number up to which they
-/// are full after all.
+/// The first free port over the machine's leases, those up to this number being full. Beside it the number up to which
+/// they are full after all.
 fn first_free(
     table: &Table,
     opened: &Connections,
@@ -86,8 +86,8 @@ fn first_free(
     (None, above)
 }
 
-/// The first free port over the machine's leases. Full leases that it comes by are known from then on, so that each costs
-/// one look in all.
+/// The first free port over the machine's leases. Full leases that it comes by are known from then on, so that each
+/// costs one look in all.
 fn find_port(
     table: &Table,
     opened: &Connections,

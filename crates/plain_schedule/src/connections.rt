@@ -44,7 +44,8 @@ impl Model for Connections {
 /// The connection of a key from now on.
 fn put(map: &mut IndexMap<FlowKey, Connection>, key: FlowKey, connection: Connection)
     requires { 0 < spare map.old }
-    ensures { (k : Key) → get same_key map.new k ≡ (if same_key key k then Some connection else get same_key map.old k) }
+    ensures { (k : Key)
+        → get same_key map.new k ≡ (if same_key key k then Some connection else get same_key map.old k) }
 {
     map.insert(key, connection).unwrap();
 }

@@ -31,8 +31,8 @@ impl RemoteEnd {
     }
 }
 
-/// Leases that carry a connection on each of their ports to a remote end. They stay so until they end, so the number up to
-/// which a machine's leases are full only rises.
+/// Leases that carry a connection on each of their ports to a remote end. They stay so until they end, and later leases
+/// have higher numbers, so the number up to which a machine's leases are full only rises.
 #[derive(Drop)]
 pub struct FullLeases {
     pub up_to: IndexMap<RemoteEnd, u64>,

@@ -10,11 +10,11 @@
 //! | `packet HEX` | a machine sends a packet, through its connection or a new one | `public HEX`, or `drop CAUSE` |
 //! | `reply HEX` | a remote end answers with a packet | `machine ADDRESS HEX`, or `drop CAUSE` |
 //!
-//! [`plain_lines`] reads the whole text and answers all that it prints, or its first bad line. What a text prints is the
-//! definition `plain_lines` of `specs/Schedule.antt`: a fold of the lines over the lease table and the
-//! connections that were opened. A connection stands while its lease does. At each moment of every text no two machines
-//! hold one range, no two live connections share a translated end, and a reply reaches the machine that opened its
-//! connection and no other: [`always_safe`].
+//! [`plain_lines`] reads the whole text and answers all that it prints, or its first bad line. What a text prints is
+//! the definition `plain_lines` of `specs/Schedule.antt`: a fold of the lines over the lease table and the connections
+//! that were opened. A connection stands while its lease does. At each moment of every text no two machines hold one
+//! range, no two live connections share the numbers of their packets on either side, and a reply reaches the machine
+//! that opened its connection and no other: [`always_safe`].
 #![tactic(auto)]
 
 mod cause;

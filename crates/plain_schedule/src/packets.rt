@@ -108,7 +108,8 @@ pub fn answer(
     out: &mut String,
     bytes: &mut [u8],
 ) -> Result<(), NoMemory>
-    ensures { OnOk result (string_bytes out.new ≡ string_bytes out.old ++ replied table.now opened.now (read_packet bytes.old)) }
+    ensures { OnOk result (string_bytes out.new
+        ≡ string_bytes out.old ++ replied table.now opened.now (read_packet bytes.old)) }
 {
     let (ttl, key, len) = match Packet::read(bytes) {
         Err(fault) => return print_drop(out, packet_cause(fault)),

@@ -81,8 +81,9 @@ fn without_end(text: &[u8]) -> &[u8]
     }
 }
 
-/// What the text of a plain schedule prints, or its first bad line. Each moment that the text leads through is safe. Each
-/// line costs a few look-ups in maps.
+/// What the text of a plain schedule prints, or its first bad line. Each moment that the text leads through is safe. A
+/// line costs time in its length and a few look-ups in maps; a packet that opens a connection also passes the machine's
+/// leases that are full for its remote end, each once in all.
 pub fn plain_lines(alloc: Global, text: &[u8]) -> Result<String, PlainFault>
     requires { length text.now + 1 < 2 ^ 32 }
     ensures prints { Prints result (plain_lines text.now) }

@@ -128,7 +128,8 @@ fn ask(
     machine: Ip4,
 ) -> Result<bool, NoMemory>
     requires { table.old.slots < 2 ^ 58 }
-    ensures step { IfOk result (λ good. table_onto (string_bytes out.old) (ask_by table.old vip machine (rule_of table.old.rules machine))
+    ensures step { IfOk result (λ good.
+        table_onto (string_bytes out.old) (ask_by table.old vip machine (rule_of table.old.rules machine))
         ≡ (if good then Some (table.new, string_bytes out.new) else None)) }
     ensures slots { OnOk result (table.new.slots ≤ table.old.slots + 1) }
     ensures vips { table.new.rules.vips ≡ table.old.rules.vips }
@@ -194,7 +195,8 @@ impl PlainState {
 
     /// Adds a VIP. False for a bad line.
     fn add_vip(&mut self, alloc: Global, vip: Ip4, low: u16, high: u16) -> Result<bool, NoMemory>
-        ensures step { IfOk result (λ good. step self.old (Some (Line.Vip vip low high)) ≡ (if good then Some (self.new, []) else None)) }
+        ensures step { IfOk result (λ good. step self.old (Some (Line.Vip vip low high))
+            ≡ (if good then Some (self.new, []) else None)) }
         ensures slots { OnOk result (self.new.table.slots ≡ self.old.table.slots) }
     {
         let named = self.table.has_vip(vip) || self.table.machine_rule(vip).is_some();

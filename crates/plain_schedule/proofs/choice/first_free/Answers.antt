@@ -22,7 +22,9 @@ loop-row-preserved c =
       found =
           sym (found_later (is_free c.args.table.now c.args.opened.now) (eight c.args.key.now) c.in-Some.row
           (rows_of c.args.table.now.leases.rows c.args.key.now.src c.in-Some.row.n) none)
-          ∙ ap (λ (rows : List Row). find (is_free c.args.table.now c.args.opened.now) (flat_map (eight c.args.key.now) rows))
+          ∙ ap
+          (λ (rows : List Row).
+          find (is_free c.args.table.now c.args.opened.now) (flat_map (eight c.args.key.now) rows))
           (sym c.in-Some.ensures)
           ∙ c.loop-row.invariant.found;
       full =

@@ -6,5 +6,8 @@ use Rattle.plain_schedule.proofs.connections.put.Goals as goal
 
 pub returns : goal.returns
 returns c k =
-    subst (λ (eq : FlowKey → FlowKey → Bool). get eq c.insert.new.self k ≡ (if eq c.args.key k then Some c.args.connection else get eq c.args.map.now k)) key_eq_is
+    subst
+    (λ (eq : FlowKey → FlowKey → Bool).
+    get eq c.insert.new.self k ≡ (if eq c.args.key k then Some c.args.connection else get eq c.args.map.now k))
+    key_eq_is
     ((rw c.unwrap.ensures at c.insert.ensures.updates).0 k)

@@ -20,7 +20,9 @@ loop-left-preserved c =
     let so_far = rw (c.in-Some.is, c.cut.ensures) at c.loop-left.invariant.so_far in
     let room = rw (c.in-Some.is, c.cut.ensures) at c.loop-left.invariant.room in
     record {
-      so_far = line_goes c.loop-left.state c.play_line.new.state c.loop-left.number (string_bytes c.loop-left.out) (string_bytes c.play_line.new.out) c.cut.result.0.now _ _ step so_far;
+      so_far =
+          line_goes c.loop-left.state c.play_line.new.state c.loop-left.number (string_bytes c.loop-left.out)
+          (string_bytes c.play_line.new.out) c.cut.result.0.now _ _ step so_far;
       room = omega (arith, room);
       slots = omega (arith, c.in_ok-play_line.ensures.slots);
     }
@@ -30,7 +32,8 @@ returns c =
     let so_far = rw c.in_default.is at c.loop-left.invariant.so_far in
     lines_end c.loop-left.state c.loop-left.number (string_bytes c.loop-left.out) _ so_far
 
-out_of_memory : (r : Result (String Global) PlainFault) (wanted : Result (List ℕ) ℕ) → IsErrAnd r (λ e. e ≡ NoMemory) → Prints r wanted
+out_of_memory : (r : Result (String Global) PlainFault) (wanted : Result (List ℕ) ℕ) → IsErrAnd r (λ e. e ≡ NoMemory)
+    → Prints r wanted
 out_of_memory (Ok text) wanted is = absurd is
 out_of_memory (Err fault) wanted is = subst (λ (f : PlainFault). Fails f wanted) (sym is) tt
 

@@ -6,7 +6,8 @@ use Rattle.plain_schedule.proofs.replay.play_lines.Given as goal
 
 abbrev pub invariant-loop-left : goal.invariant-loop-left
 invariant-loop-left l = record {
-  so_far : printed (string_bytes l.out) (lines_from l.state l.number (parts_of 10 (option_copied l.left))) ≡ lines_from start 2 (parts_of 10 (option_copied l.rest));
+  so_far : printed (string_bytes l.out) (lines_from l.state l.number (parts_of 10 (option_copied l.left))) ≡ lines_from
+      start 2 (parts_of 10 (option_copied l.rest));
   room : l.number + length (parts_of 10 (option_copied l.left)) ≤ length (parts_of 10 (option_copied l.rest)) + 2;
   slots : l.state.table.slots < l.number;
 }

@@ -9,5 +9,7 @@ joined a b c d e f p q r = p ∙ ap (λ (l : List ℕ). l ++ b) q ∙ append_ass
 
 pub loop-effect-preserved : goal.loop-effect-preserved
 loop-effect-preserved c =
-    joined (string_bytes c.args.out.now) _ _ _ (flat_map effect_text (take c.loop-effect.effect-index c.args.effects.now)) _
-    c.in_ok-print_effect.ensures c.loop-effect.invariant (texts_more effect_text c.args.effects.now c.loop-effect.effect-index _ c.loop-effect-test.true)
+    joined (string_bytes c.args.out.now) _ _ _
+    (flat_map effect_text (take c.loop-effect.effect-index c.args.effects.now)) _
+    c.in_ok-print_effect.ensures c.loop-effect.invariant
+    (texts_more effect_text c.args.effects.now c.loop-effect.effect-index _ c.loop-effect-test.true)
