@@ -20,10 +20,10 @@ use Rattle.std.proofs.lemmas.List.Sums.{count_by-le-length, sum_by-cons, sum_by_
 use Rattle.std.proofs.lemmas.Bool.{eqb-true, eq-eqb}
 use Rattle.std.proofs.lemmas.Bool.Decides.{nat_tests}
 use Rattle.std.proofs.Math.Bool.{and-false, or-true}
-use Rattle.port_leases.specs.Effects.{Adds, Told, boot_effects}
+use Rattle.lease_rows.specs.Effects.{Adds, Told, boot_effects}
 use Rattle.port_leases.specs.Store.{may_raise}
-use Rattle.port_leases.specs.Entries.{InOrder, RowsAbove, RowsAscend, RowsBelow}
-use Rattle.port_leases.proofs.Indexed.{by_test, one_at}
+use Rattle.lease_rows.specs.Entries.{InOrder, RowsAbove, RowsAscend, RowsBelow}
+use Rattle.lease_rows.proofs.Indexed.{by_test, one_at}
 
 -- ---- one command first
 

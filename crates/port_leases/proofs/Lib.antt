@@ -1,11 +1,3 @@
-pub mod Places
-pub mod LiveRows
-pub mod Counted
-pub mod MachineRows
-pub mod Indexed
-pub mod Numbers
-pub mod Linked
-pub mod Blocks
 pub mod RequestLists
 pub mod Stored
 pub mod Folds

@@ -8,9 +8,9 @@ use Rattle.wire_core.specs.declared.address.Ip4.{Ip4}
 use Rattle.lease_spec.specs.Table.{Known, Last, known_boot, last_of, put, with_known, with_last}
 use Rattle.port_leases.specs.declared.requests.Request.{Request}
 use Rattle.port_leases.specs.Requests.{last_with}
-use Rattle.port_leases.specs.Rows.{same_address}
+use Rattle.lease_rows.specs.Rows.{same_address}
 use Rattle.port_leases.specs.Store.{known_entry, known_of, last_entry, lasts_of}
-use Rattle.port_leases.proofs.Indexed.{address_is, by_test}
+use Rattle.lease_rows.proofs.Indexed.{address_is, by_test}
 
 pub known_at : (agent : ℕ) (es : List (ℕ × ℕ)) → unwrap_or (lookup (nat_eq agent) es) 0 ≡ known_boot (known_of es) agent
 known_at agent [] = refl

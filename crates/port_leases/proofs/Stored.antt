@@ -16,11 +16,11 @@ use Rattle.wire_core.specs.declared.rules.VipRule.{VipRule}
 use Rattle.wire_core.specs.Ranges.{allows, range_at, is_leasable}
 use Rattle.lease_spec.specs.declared.row.Row.{Row}
 use Rattle.lease_spec.specs.Free.{first_start, has_no_row, is_free, least_free, range_of_start, same_range}
-use Rattle.port_leases.specs.Rows.{same_address}
-use Rattle.port_leases.specs.Starts.{first_flag}
+use Rattle.lease_rows.specs.Rows.{same_address}
+use Rattle.lease_rows.specs.Starts.{first_flag}
 use Rattle.port_leases.specs.Store.{AreFree, IsFreeOf, IsStored, first_of}
 use Rattle.port_leases.specs.TableState.{has_vip}
-use Rattle.port_leases.proofs.Indexed.{address_is, any-map, any-push, by_test, range_is}
+use Rattle.lease_rows.proofs.Indexed.{address_is, any-map, any-push, by_test, range_is}
 
 -- ---- the rows change, and no range becomes free or taken
 

@@ -8,15 +8,15 @@ use Rattle.wire_core.specs.declared.rules.VipRule.{VipRule}
 use Rattle.wire_core.specs.Ranges.{range_at}
 use Rattle.lease_spec.specs.declared.row.Row.{Row}
 use Rattle.lease_spec.specs.Free.{is_free}
-use Rattle.lease_spec.specs.Table.{Done, Known, Last, Leases, known_boot, rule_of}
+use Rattle.lease_spec.specs.Table.{Done, Known, Last, Leases, decide, known_boot, next as nexts, raise_known, rule_of}
 use Rattle.wire_core.specs.Commands.{LogCommand, Reserve, Granted, Release, Freed, Up}
 use Rattle.port_leases.specs.declared.requests.Request.{Request}
 use Rattle.port_leases.specs.Requests.{last_with}
-use Rattle.port_leases.specs.Starts.{first_flag}
+use Rattle.lease_rows.specs.Starts.{first_flag}
 use Rattle.port_leases.specs.TableState.{has_vip}
 
--- The rules, what stands now, the least number that a new row may have, and for how many rows, agents and machines there
--- is room without memory.
+-- The rules, what stands now, the least number that a new row may have, and for how many rows, agents and machines
+-- there is room without memory.
 pub record StoreState : Type 0 where
   pub rules : LeaseRules
   pub leases : Leases
@@ -47,7 +47,8 @@ IsFreeOf rules rows vip None = has_vip rules vip ≡ false
 IsFreeOf rules rows vip (Some flags) = AreFree rules rows vip flags
 
 -- Machines and free starts are as the rules and the rows have them.
-pub record IsStored (rules : LeaseRules) (rows : List Row) (rule : Ip4 → Option MachineRule) (free : Ip4 → Option (List Bool)) : Type 0 where
+pub record IsStored (rules : LeaseRules) (rows : List Row)
+    (rule : Ip4 → Option MachineRule) (free : Ip4 → Option (List Bool)) : Type 0 where
   pub machines : (machine : Ip4) → rule machine ≡ rule_of rules machine
   pub vips : (vip : Ip4) → IsFreeOf rules rows vip (free vip)
 
@@ -55,6 +56,10 @@ pub record IsStored (rules : LeaseRules) (rows : List Row) (rule : Ip4 → Optio
 abbrev pub first_of : Option (List Bool) → Option ℕ
 first_of None = None
 first_of (Some flags) = first_flag 8 0 flags
+
+-- a request that has an effect: its agent's boot is known from then on, and it is decided
+abbrev pub request : LeaseRules → ℕ → ℕ → MachineRule → ℕ → Leases → Done
+request rules place boot rule seq t = nexts (raise_known rule.agent boot t) (decide rules place boot rule seq)
 
 -- One command is done, in the room that was kept for it.
 pub record Does (old new : StoreState) (done : Done) : Type 0 where

@@ -1,16 +1,21 @@
 -- What callers see of a lease table, and what a slot does to it.
-use Rattle.std.specs.Prelude.{ℕ, ◌+◌, Bool, nat_lt, ◌==◌, ◌&&◌, List, [], ◌∷◌, Option, Some, None, filter, find}
+use Rattle.std.specs.Prelude.{ℕ, ◌+◌, Bool, nat_lt, ◌==◌, ◌&&◌, List, [], ◌∷◌, ◌++◌, Option, Some, None, filter, find}
 use Rattle.std.specs.List.{list_any}
 use Rattle.wire_core.specs.declared.address.Ip4.{Ip4}
 use Rattle.wire_core.specs.declared.range.Range.{Range}
 use Rattle.wire_core.specs.declared.rules.LeaseRules.{LeaseRules}
+use Rattle.wire_core.specs.declared.rules.MachineRule.{MachineRule}
+use Rattle.wire_core.specs.declared.rules.VipRule.{VipRule}
 use Rattle.wire_core.specs.Commands.{LogCommand}
 use Rattle.lease_spec.specs.declared.row.Row.{Row}
 use Rattle.lease_spec.specs.declared.row.Outcome.{Outcome}
+use Rattle.lease_spec.specs.declared.row.Phase.{Phase}
+use Rattle.lease_spec.specs.declared.row.Phase.TheVariants.{BeingLeased, Leased, Freeing}
 use Rattle.lease_spec.specs.declared.effect.Effect.{Effect}
 use Rattle.lease_spec.specs.Free.{same_range}
 use Rattle.lease_spec.specs.Places.{slot_commands}
-use Rattle.lease_spec.specs.Table.{Done, Last, Leases, apply, no_leases}
+use Rattle.lease_spec.specs.Table.{Done, Last, Leases, apply, is_being, is_freeing, is_leased, no_leases}
+pub use Rattle.lease_rows.specs.Walks.{in_phase, onward, onward_all, onward_in, row_above, row_on, rows_above, rows_in, rows_of}
 
 -- The rules, what stands now, and how many slots were applied.
 pub record TableState : Type 0 where
@@ -30,23 +35,6 @@ after_slot t done = (record t { leases = done.leases; slots = t.slots + 1 }, don
 abbrev pub apply_slot : TableState → List LogCommand → TableState × List Effect
 apply_slot t value = after_slot t (apply t.rules (slot_commands t.slots value) t.leases)
 
--- the row on a range
-abbrev pub row_on : List Row → Range → Option Row
-row_on rows r = find (λ row. same_range row.range r) rows
-
--- the first row with a number above this one; rows stand by number
-abbrev pub row_above : List Row → ℕ → Option Row
-row_above rows n = find (λ row. nat_lt n row.n) rows
-
--- the machine's rows with numbers above this one, by number
-abbrev pub rows_of : List Row → Ip4 → ℕ → List Row
-rows_of rows machine above = filter (λ row. nat_lt above row.n && (row.machine.0 == machine.0)) rows
-
--- a row of the machine and those that follow it
-abbrev pub onward : List Row → Ip4 → Option Row → List Row
-onward rows machine None = []
-onward rows machine (Some row) = row ∷ rows_of rows machine row.n
-
 abbrev pub outcome_of : Option Last → Option Outcome
 outcome_of None = None
 outcome_of (Some last) = Some last.outcome
@@ -55,6 +43,14 @@ outcome_of (Some last) = Some last.outcome
 abbrev pub pair_of : Option Last → Option (ℕ × ℕ)
 pair_of None = None
 pair_of (Some last) = Some (last.boot, last.seq)
+
+-- one more VIP
+abbrev pub with_vip : LeaseRules → VipRule → LeaseRules
+with_vip rules vip = record rules { vips = rules.vips ++ vip ∷ [] }
+
+-- one more machine
+abbrev pub with_machine : LeaseRules → MachineRule → LeaseRules
+with_machine rules machine = record rules { machines = rules.machines ++ machine ∷ [] }
 
 -- the rules name the VIP
 abbrev pub has_vip : LeaseRules → Ip4 → Bool

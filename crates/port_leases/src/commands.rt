@@ -1,13 +1,13 @@
 ghost use Rattle.std.specs.Prelude.{ℕ, ◌≡◌, ◌<◌, ◌≤◌, ◌+◌, ◌*◌, ◌^◌, ◌++◌, length};
 ghost use Rattle.std.specs.List.{list_any};
 ghost use Rattle.lease_spec.specs.Table.{apply, at_phase, command as command_done, decide, free, grant, next, raise_known, release, reserve, row_at, rule_of, up};
-ghost use Rattle.port_leases.specs.Effects.{Adds};
+ghost use Rattle.lease_rows.specs.Effects.{Adds};
 ghost use Rattle.lease_spec.specs.Places.{placed};
-ghost use Rattle.port_leases.specs.Store.{Does, may_raise};
+ghost use Rattle.port_leases.specs.Store.{Does, may_raise, request};
 ghost use Rattle.wire_core.specs.Views.{command_of};
 
-use crate::effects::Effects;
 use crate::store::Store;
+use lease_rows::Effects;
 use lease_spec::{Effect, Phase, Row};
 use wire_core::{Command, Ip4, MachineRule, Value};
 
@@ -99,9 +99,9 @@ fn request(
 )
     requires room { 2 < store.old.room }
     requires next { store.old.next ≤ place }
-    requires effects { length (next (raise_known rule.agent boot store.old.leases) (decide store.old.rules place boot rule seq)).effects ≤ effects.old.room }
-    ensures does { Does store.old store.new (next (raise_known rule.agent boot store.old.leases) (decide store.old.rules place boot rule seq)) }
-    ensures effects { Adds effects.old effects.new (next (raise_known rule.agent boot store.old.leases) (decide store.old.rules place boot rule seq)).effects }
+    requires effects { length (request store.old.rules place boot rule seq store.old.leases).effects ≤ effects.old.room }
+    ensures does { Does store.old store.new (request store.old.rules place boot rule seq store.old.leases) }
+    ensures effects { Adds effects.old effects.new (request store.old.rules place boot rule seq store.old.leases).effects }
     ensures next { store.new.next ≤ place + 1 }
 {
     store.raise_known(rule.agent, boot, effects);
@@ -122,9 +122,12 @@ fn reserve(
 )
     requires room { 2 < store.old.room }
     requires next { store.old.next ≤ place }
-    requires effects { length (reserve store.old.rules place agent boot seq (rule_of store.old.rules machine) store.old.leases).effects ≤ effects.old.room }
-    ensures does { Does store.old store.new (reserve store.old.rules place agent boot seq (rule_of store.old.rules machine) store.old.leases) }
-    ensures effects { Adds effects.old effects.new (reserve store.old.rules place agent boot seq (rule_of store.old.rules machine) store.old.leases).effects }
+    requires effects { length (reserve store.old.rules place agent boot seq (rule_of store.old.rules machine)
+        store.old.leases).effects ≤ effects.old.room }
+    ensures does { Does store.old store.new
+        (reserve store.old.rules place agent boot seq (rule_of store.old.rules machine) store.old.leases) }
+    ensures effects { Adds effects.old effects.new
+        (reserve store.old.rules place agent boot seq (rule_of store.old.rules machine) store.old.leases).effects }
     ensures next { store.new.next ≤ place + 1 }
 {
     let Some(rule) = store.rule_of(machine) else {
@@ -144,7 +147,8 @@ pub fn apply_command(store: &mut Store, place: u64, command: Command<'_>, effect
     requires next { store.old.next ≤ place }
     requires effects { length (command_done store.old.rules place (command_of command) store.old.leases).effects ≤ effects.old.room }
     ensures does { Does store.old store.new (command_done store.old.rules place (command_of command.entry) store.old.leases) }
-    ensures effects { Adds effects.old effects.new (command_done store.old.rules place (command_of command.entry) store.old.leases).effects }
+    ensures effects { Adds effects.old effects.new
+        (command_done store.old.rules place (command_of command.entry) store.old.leases).effects }
     ensures next { store.new.next ≤ place + 1 }
 {
     match command {
@@ -206,7 +210,8 @@ pub fn apply_value(store: &mut Store, place: u64, value: &Value, effects: &mut E
     ensures rules { store.new.rules ≡ store.old.rules }
     ensures leases { store.new.leases ≡ (apply store.old.rules (placed place value.now) store.old.leases).leases }
     ensures next { store.new.next ≤ place + length value.now }
-    ensures effects { effects.new.effects ≡ effects.old.effects ++ (apply store.old.rules (placed place value.now) store.old.leases).effects }
+    ensures effects { effects.new.effects
+        ≡ effects.old.effects ++ (apply store.old.rules (placed place value.now) store.old.leases).effects }
 {
     for i in 0..value.len() {
         apply_command(store, place + i as u64, value.command(i), effects);

@@ -6,31 +6,19 @@
 //!
 //! | module | what it keeps | found by |
 //! |---|---|---|
-//! | `entries` | rows in the order of their numbers, with places of rows that left | a binary search |
-//! | `numbered` | these as one value; places are given up once half of them are without a row | number |
-//! | `links` | each machine's rows as a chain: the one before and the one after | number, machine |
-//! | `rows` | the rows, the number on each range, each machine's count and chain | number, range, machine |
-//! | `starts` | which starts of a VIP are free, and a summary by blocks of 64 | the least free one |
 //! | `requests` | known boots and last requests | agent, machine |
-//! | `effects` | what a slot's commands did so far | |
-//! | `store` | all of these and the rules | |
+//! | `store` | the rules, the rows and free starts of `lease_rows`, boots and requests | |
 //! | `commands` | what each command does, and the commands of a value | |
 //! | `table` | the public calls | |
 //!
-//! Memory: [`Table::apply`] makes room for a whole slot before its first change, and then nothing can fail. So it is all
-//! or nothing. A lease looks at no more than 128 blocks and 64 starts. Only a raised boot looks at each row.
+//! Memory: [`Table::apply`] makes room for a whole slot before its first change, and then nothing can fail. So it is
+//! all or nothing. A lease looks at no more than 128 blocks and 64 starts. Only a raised boot looks at each row.
 //!
 //! Left to the caller: slots in order, below 2^58, and that a VIP or machine that is added is new.
 #![tactic(auto)]
 
 mod commands;
-mod effects;
-mod entries;
-mod links;
-mod numbered;
 mod requests;
-mod rows;
-mod starts;
 mod store;
 mod table;
 

@@ -3,20 +3,19 @@ ghost use Rattle.std.specs.Option.{option_or};
 ghost use Rattle.indexmap.specs.IndexMap.{get};
 ghost use Rattle.lease_spec.specs.Free.{is_free, least_free};
 ghost use Rattle.lease_spec.specs.Table.{decide, is_later, known_boot, last_of, move, no_leases, noted, raise_known, row_at, row_count, rule_of};
-ghost use Rattle.port_leases.specs.Effects.{Adds};
-ghost use Rattle.port_leases.specs.Entries.{InOrder};
-ghost use Rattle.port_leases.specs.Rows.{same_address};
+ghost use Rattle.lease_rows.specs.Effects.{Adds};
+ghost use Rattle.lease_rows.specs.Entries.{InOrder};
+ghost use Rattle.lease_rows.specs.Rows.{same_address};
 ghost use Rattle.port_leases.specs.Store.{AreFree, IsFreeOf, first_of};
-ghost use Rattle.port_leases.specs.TableState.{has_vip, onward, row_above, row_on, rows_of};
+ghost use Rattle.port_leases.specs.TableState.{has_vip, with_machine, with_vip};
+ghost use Rattle.port_leases.specs.TableState.{onward, onward_all, onward_in, row_above, row_on, rows_above, rows_in, rows_of};
 ghost use Rattle.port_leases.specs.Requests.{last_with};
 ghost use Rattle.wire_core.specs.Ranges.{is_leasable, range_at};
 ghost use Rattle.wire_core.specs.declared.address.Ip4 as ip;
 
-use crate::effects::Effects;
 use crate::requests::{self, Request};
-use crate::rows::Rows;
-use crate::starts::Starts;
 use indexmap::IndexMap;
+use lease_rows::{Effects, Rows, Starts};
 use lease_spec::{Effect, Outcome, Phase, Row};
 use std::alloc::Global;
 use std::marker::Model;
@@ -43,12 +42,21 @@ pub struct Store {
 impl Model for Store {
     ghost use Rattle.std.specs.Prelude.{min};
     ghost use Rattle.indexmap.specs.IndexMap.{get, spare};
-    ghost use Rattle.port_leases.specs.Rows.{same_address};
+    ghost use Rattle.lease_rows.specs.Rows.{same_address};
     ghost use Rattle.port_leases.specs.Store.{IsStored, StoreState, known_of, lasts_of};
 
     ghost Value = { StoreState };
 
-    ghost view = { λ t. record { rules = t.rules; leases = record { rows = t.rows.rows; known = known_of t.known.entries; lasts = lasts_of t.lasts.entries }; next = t.rows.next; room = min t.rows.room (min (spare t.known) (spare t.lasts)) } };
+    ghost view = { λ t. record {
+      rules = t.rules;
+      leases = record {
+        rows = t.rows.rows;
+        known = known_of t.known.entries;
+        lasts = lasts_of t.lasts.entries;
+      };
+      next = t.rows.next;
+      room = min t.rows.room (min (spare t.known) (spare t.lasts));
+    } };
 
     ghost invariant = { λ t. IsStored t.rules t.rows.rows (get same_address t.machines) (get same_address t.vips) };
 }
@@ -65,7 +73,10 @@ fn first_free(vips: &IndexMap<Ip4, Starts>, vip: Ip4) -> Option<u16>
 
 /// A range is free from now on, or isn't any more.
 fn set_free(vips: &mut IndexMap<Ip4, Starts>, range: Range, free: bool)
-    ensures { (v : ip.Ip4) → get same_address vips.new v ≡ (if same_address range.vip v then option_map (λ flags. slice_set flags (range.start / 8) free) (get same_address vips.old range.vip) else get same_address vips.old v) }
+    ensures { (v : ip.Ip4) → get same_address vips.new v
+        ≡ (if same_address range.vip v
+        then option_map (λ flags. slice_set flags (range.start / 8) free) (get same_address vips.old range.vip)
+        else get same_address vips.old v) }
 {
     if let Some(starts) = vips.get_mut(&range.vip) {
         starts.set(usize::from(range.start / 8), free);
@@ -81,7 +92,8 @@ fn rule_of(machines: &IndexMap<Ip4, MachineRule>, machine: Ip4) -> Option<Machin
 
 /// A machine's rule, where the machine has none yet.
 fn put_rule(machines: &mut IndexMap<Ip4, MachineRule>, rule: MachineRule) -> Result<(), NoMemory>
-    ensures { OnOk result ((m : ip.Ip4) → get same_address machines.new m ≡ option_or (get same_address machines.old m) (if same_address rule.machine m then Some rule else None)) }
+    ensures { OnOk result ((m : ip.Ip4) → get same_address machines.new m
+        ≡ option_or (get same_address machines.old m) (if same_address rule.machine m then Some rule else None)) }
 {
     if machines.contains_key(&rule.machine) {
         return Ok(());
@@ -95,7 +107,8 @@ fn index_machines(
     alloc: Global,
     rules: &[MachineRule],
 ) -> Result<IndexMap<Ip4, MachineRule>, NoMemory>
-    ensures { IfOk result (λ machines. (m : ip.Ip4) → get same_address machines m ≡ find (λ rule. rule.machine.0 == m.0) rules.now) }
+    ensures { IfOk result (λ machines. (m : ip.Ip4)
+        → get same_address machines m ≡ find (λ rule. rule.machine.0 == m.0) rules.now) }
 {
     let mut machines = IndexMap::new(alloc);
     for rule in rules {
@@ -139,7 +152,8 @@ fn put_starts(
     requires named { has_vip rules.now vip ≡ true }
     requires free { IfSome (get same_address vips.old vip) (AreFree rules.now rows.now.rows vip) }
     ensures here { OnOk result (IsSomeAnd (get same_address vips.new vip) (AreFree rules.now rows.now.rows vip)) }
-    ensures others { OnOk result ((v : ip.Ip4) → same_address vip v ≡ false → get same_address vips.new v ≡ get same_address vips.old v) }
+    ensures others { OnOk result ((v : ip.Ip4) → same_address vip v ≡ false
+        → get same_address vips.new v ≡ get same_address vips.old v) }
 {
     if vips.contains_key(&vip) {
         return Ok(());
@@ -188,7 +202,7 @@ impl Store {
     /// One more VIP.
     pub fn add_vip(&mut self, alloc: Global, rule: VipRule) -> Result<(), NoMemory>
         requires { has_vip self.old.rules rule.vip ≡ false }
-        ensures rules { self.new.rules ≡ (if is_ok result then record self.old.rules { vips = self.old.rules.vips ++ rule ∷ [] } else self.old.rules) }
+        ensures rules { self.new.rules ≡ (if is_ok result then with_vip self.old.rules rule else self.old.rules) }
         ensures leases { self.new.leases ≡ self.old.leases }
         ensures next { self.new.next ≡ self.old.next }
     {
@@ -204,7 +218,7 @@ impl Store {
     /// One more machine.
     pub fn add_machine(&mut self, rule: MachineRule) -> Result<(), NoMemory>
         requires { rule_of self.old.rules rule.machine ≡ None }
-        ensures rules { self.new.rules ≡ (if is_ok result then record self.old.rules { machines = self.old.rules.machines ++ rule ∷ [] } else self.old.rules) }
+        ensures rules { self.new.rules ≡ (if is_ok result then with_machine self.old.rules rule else self.old.rules) }
         ensures leases { self.new.leases ≡ self.old.leases }
         ensures next { self.new.next ≡ self.old.next }
     {
@@ -223,12 +237,21 @@ impl Store {
 
     /// The row with the least number above this one.
     pub fn row_above(&self, n: u64) -> Option<Row>
-        ensures { result ≡ row_above self.now.leases.rows n }
+        ensures row { result ≡ row_above self.now.leases.rows n }
+        ensures walk { rows_above self.now.leases.rows n ≡ onward_all self.now.leases.rows result }
     {
         self.rows.row_above(n)
     }
 
-    /// The machine's row with the least number above this one, if any. Costs a walk over the rows between them.
+    /// The row in this phase with the least number above this one.
+    pub fn next_in(&self, phase: Phase, above: u64) -> Option<Row>
+        ensures { rows_in self.now.leases.rows phase above ≡ onward_in self.now.leases.rows phase result }
+    {
+        self.rows.next_in(phase, above)
+    }
+
+    /// The machine's row with the least number above this one, if any. Where this number is below the machine's first
+    /// or is one of a row of the machine, it is found at once; else by a walk over the rows between them.
     pub fn next_row_of(&self, machine: Ip4, above: u64) -> Option<Row>
         ensures { rows_of self.now.leases.rows machine above ≡ onward self.now.leases.rows machine result }
     {
@@ -356,7 +379,8 @@ impl Store {
     pub fn remove(&mut self, row: &Row)
         requires { row_at self.old.leases.rows row.now.n ≡ Some row.now }
         ensures rules { self.new.rules ≡ self.old.rules }
-        ensures leases { self.new.leases ≡ record self.old.leases { rows = filter (λ other. not (other.n == row.now.n)) self.old.leases.rows } }
+        ensures leases { self.new.leases
+            ≡ record self.old.leases { rows = filter (λ other. not (other.n == row.now.n)) self.old.leases.rows } }
         ensures next { self.new.next ≤ self.old.next }
         ensures room { self.old.room ≤ self.new.room }
     {
@@ -368,7 +392,9 @@ impl Store {
 
     /// How many rows the machine has, where they are as many as a machine may have.
     fn limit_reached(&self, machine: Ip4) -> Option<u32>
-        ensures count { result ≡ (if nat_le self.now.rules.limit (row_count self.now.leases.rows machine) then Some (row_count self.now.leases.rows machine) else None) }
+        ensures count { result ≡ (if nat_le self.now.rules.limit (row_count self.now.leases.rows machine)
+            then Some (row_count self.now.leases.rows machine)
+            else None) }
         ensures few { IfNone result (row_count self.now.leases.rows machine < 2 ^ 32 - 1) }
     {
         let count = self.rows.count(machine);
@@ -396,7 +422,8 @@ impl Store {
         requires room { 1 < self.old.room }
         requires next { self.old.next ≤ place }
         ensures rules { self.new.rules ≡ self.old.rules }
-        ensures done { decide self.old.rules place boot rule seq self.old.leases ≡ record { leases = self.new.leases; effects = result ∷ [] } }
+        ensures done { decide self.old.rules place boot rule seq self.old.leases
+            ≡ record { leases = self.new.leases; effects = result ∷ [] } }
         ensures next { self.new.next ≤ place + 1 }
         ensures room { self.old.room ≤ self.new.room + 2 }
     {

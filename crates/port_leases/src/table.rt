@@ -1,11 +1,12 @@
-ghost use Rattle.std.specs.Prelude.{◌≡◌, ◌<◌, ◌^◌, ◌++◌, ◌∷◌, [], false, IfOk, OnOk, OnErr, IsNone};
+ghost use Rattle.std.specs.Prelude.{◌≡◌, ◌<◌, ◌^◌, ◌++◌, ◌∷◌, [], false, IfOk, OnOk, OnErr, IsNone, length};
 ghost use Rattle.lease_spec.specs.Table.{known_boot, last_of, row_at, rule_of};
-ghost use Rattle.port_leases.specs.TableState.{apply_slot, fresh, has_vip, onward, outcome_of, pair_of, row_above, row_on, rows_of};
+ghost use Rattle.port_leases.specs.TableState.{apply_slot, fresh, has_vip, outcome_of, pair_of, with_machine, with_vip};
+ghost use Rattle.port_leases.specs.TableState.{onward, onward_all, onward_in, row_above, row_on, rows_above, rows_in, rows_of};
 
 use crate::commands::{apply_value, effects_room};
-use crate::effects::Effects;
 use crate::store::Store;
-use lease_spec::{EffectList, Outcome, Row};
+use lease_rows::Effects;
+use lease_spec::{EffectList, Outcome, Phase, Row};
 use std::alloc::Global;
 use std::marker::Model;
 use wire_core::{Ip4, LeaseRules, MachineRule, NoMemory, Range, Value, VipRule};
@@ -46,7 +47,7 @@ impl Table {
     /// One more VIP, whose address is new among the VIPs. Without memory the table stays as it was.
     pub fn add_vip(&mut self, v: VipRule) -> Result<(), NoMemory>
         requires { has_vip self.old.rules v.vip ≡ false }
-        ensures ok { OnOk result (self.new ≡ record self.old { rules = record self.old.rules { vips = self.old.rules.vips ++ v ∷ [] } }) }
+        ensures ok { OnOk result (self.new ≡ record self.old { rules = with_vip self.old.rules v }) }
         ensures err { OnErr result (self.new ≡ self.old) }
     {
         self.store.add_vip(self.alloc, v)
@@ -55,7 +56,7 @@ impl Table {
     /// One more machine, whose address is new among the machines. Without memory the table stays as it was.
     pub fn add_machine(&mut self, m: MachineRule) -> Result<(), NoMemory>
         requires { rule_of self.old.rules m.machine ≡ None }
-        ensures ok { OnOk result (self.new ≡ record self.old { rules = record self.old.rules { machines = self.old.rules.machines ++ m ∷ [] } }) }
+        ensures ok { OnOk result (self.new ≡ record self.old { rules = with_machine self.old.rules m }) }
         ensures err { OnErr result (self.new ≡ self.old) }
     {
         self.store.add_machine(m)
@@ -98,15 +99,35 @@ impl Table {
         self.store.row_on(*r)
     }
 
-    /// The row with the least number above this one. `None` exactly where there is none.
+    /// The number of rows.
+    pub fn len(&self) -> usize
+        ensures { result ≡ length self.now.leases.rows }
+    {
+        self.store.len()
+    }
+
+    /// The row with the least number above this one. `None` exactly where there is none. A walk from 0, and on from
+    /// each row's number, meets each row once, by number. Costs a binary search and a look at places of rows that left,
+    /// of which there are no more than of rows.
     pub fn next_row(&self, above: u64) -> Option<Row>
-        ensures { result ≡ row_above self.now.leases.rows above }
+        ensures row { result ≡ row_above self.now.leases.rows above }
+        ensures walk { rows_above self.now.leases.rows above ≡ onward_all self.now.leases.rows result }
     {
         self.store.row_above(above)
     }
 
-    /// The machine's row with the least number above this one. `None` exactly where it has none. Costs a walk over the
-    /// rows between them.
+    /// The row in this phase with the least number above this one. `None` exactly where there is none. A walk from 0,
+    /// and on from each row's number, meets each row in this phase once, by number. Costs a binary search and a look at
+    /// no more than 128 rows and at one flag for each 64 rows.
+    pub fn next_in(&self, phase: Phase, above: u64) -> Option<Row>
+        ensures { rows_in self.now.leases.rows phase above ≡ onward_in self.now.leases.rows phase result }
+    {
+        self.store.next_in(phase, above)
+    }
+
+    /// The machine's row with the least number above this one. `None` exactly where it has none. A walk from 0, and on
+    /// from each row's number, costs a look-up and a binary search a row. From a number between two of the machine's
+    /// rows it costs a walk over the rows between them.
     pub fn next_row_of(&self, machine: Ip4, above: u64) -> Option<Row>
         ensures { rows_of self.now.leases.rows machine above ≡ onward self.now.leases.rows machine result }
     {

@@ -1,6 +1,6 @@
 use Rattle.std.proofs.Common.{◌≡◌, ℕ, Some, sym, subst, ◌∙◌}
 use Rattle.lease_spec.specs.Table.{row_at}
-use Rattle.port_leases.proofs.Indexed.{number_found}
+use Rattle.lease_rows.proofs.Indexed.{number_found}
 use Rattle.port_leases.proofs.commands.free.Goals as goal
 
 pub remove-requires : goal.remove-requires

@@ -1,7 +1,7 @@
 use Rattle.std.proofs.Common.{take}
 use Rattle.indexmap.specs.IndexMap.{get}
 use Rattle.wire_core.specs.declared.address.Ip4.{Ip4}
-use Rattle.port_leases.specs.Rows.{same_address}
+use Rattle.lease_rows.specs.Rows.{same_address}
 use Rattle.port_leases.specs.Store.{IsMadeOf}
 use Rattle.port_leases.proofs.store.index_vips.Given as goal
 

@@ -1,7 +1,7 @@
 use Rattle.std.proofs.Common.{◌≡◌, None, Some, if◌then◌else◌, sym, ap, subst, ◌∙◌}
 use Rattle.std.specs.Map.{lookup}
 use Rattle.lease_spec.specs.Table.{rule_of}
-use Rattle.port_leases.specs.Rows.{same_address}
+use Rattle.lease_rows.specs.Rows.{same_address}
 use Rattle.port_leases.specs.Store.{StoreState}
 use Rattle.port_leases.proofs.Stored.{stored-machine}
 use Rattle.port_leases.proofs.store.Store.add_machine.Goals as goal

@@ -1,6 +1,6 @@
 use Rattle.std.proofs.Common.{Some, if◌then◌else◌, ap, ◌∙◌}
 use Rattle.std.specs.Map.{lookup}
-use Rattle.port_leases.specs.Rows.{same_address}
+use Rattle.lease_rows.specs.Rows.{same_address}
 use Rattle.port_leases.proofs.Stored.{stored-vip}
 use Rattle.port_leases.proofs.store.Store.add_vip.Goals as goal
 

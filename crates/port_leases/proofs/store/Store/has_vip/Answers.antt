@@ -1,6 +1,6 @@
 use Rattle.std.proofs.Common.{ap, ◌∙◌}
 use Rattle.indexmap.specs.IndexMap.{get}
-use Rattle.port_leases.specs.Rows.{same_address}
+use Rattle.lease_rows.specs.Rows.{same_address}
 use Rattle.port_leases.specs.Store.{StoreState}
 use Rattle.port_leases.specs.TableState.{has_vip}
 use Rattle.port_leases.proofs.Stored.{named-free}

@@ -2,7 +2,7 @@ use Rattle.std.proofs.Common.{◌≡◌, true, sym, ap, subst, ◌∙◌}
 use Rattle.indexmap.specs.IndexMap.{get}
 use Rattle.wire_core.specs.Ranges.{range_at}
 use Rattle.lease_spec.specs.Free.{is_free, least_free, range_of_start}
-use Rattle.port_leases.specs.Rows.{same_address}
+use Rattle.lease_rows.specs.Rows.{same_address}
 use Rattle.port_leases.specs.Store.{StoreState}
 use Rattle.port_leases.proofs.Stored.{first-free, least-first}
 use Rattle.port_leases.proofs.store.Store.least_free.Goals as goal

@@ -1,7 +1,7 @@
 use Rattle.std.proofs.Common.{◌==◌, if◌then◌else◌, arith, sym, subst}
 use Rattle.indexmap.specs.IndexMap.{get}
 use Rattle.lease_spec.specs.Table.{at_phase}
-use Rattle.port_leases.specs.Rows.{same_address}
+use Rattle.lease_rows.specs.Rows.{same_address}
 use Rattle.port_leases.specs.Store.{IsStored}
 use Rattle.port_leases.proofs.Stored.{free-map, stored-same}
 use Rattle.port_leases.proofs.store.Store.set_phase.Goals as goal

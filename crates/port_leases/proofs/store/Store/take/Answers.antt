@@ -1,7 +1,7 @@
 use Rattle.std.proofs.Common.{◌≡◌, true, sym, subst}
 use Rattle.indexmap.specs.IndexMap.{get}
 use Rattle.lease_spec.specs.Free.{is_free}
-use Rattle.port_leases.specs.Rows.{same_address}
+use Rattle.lease_rows.specs.Rows.{same_address}
 use Rattle.port_leases.specs.Store.{IsStored, StoreState}
 use Rattle.port_leases.proofs.Stored.{stored-take}
 use Rattle.port_leases.proofs.store.Store.take.Goals as goal

@@ -1,0 +1,10 @@
+pub mod Places
+pub mod LiveRows
+pub mod Counted
+pub mod Walks
+pub mod Indexed
+pub mod Numbers
+pub mod Linked
+pub mod MachineRows
+pub mod StartBlocks
+pub mod EntryBlocks
