@@ -1,7 +1,7 @@
 ghost use Rattle.std.specs.Prelude.{◌≡◌, ◌<◌, true, IfOk, OnOk, OnErr};
 ghost use Rattle.std.specs.Option.{option_copied};
 ghost use Rattle.paxos_leader.specs.Seen.{ballot_above, bare};
-ghost use Rattle.paxos_spec.specs.Leader.{arrive, campaign, is_catching, is_idle, lead_accepted, lead_promise, lead_reached, new_leader, propose, ready, stepped_down, third_promise, value_out, would_choose};
+ghost use Rattle.paxos_spec.specs.Leader.{arrive, campaign, is_catching, is_idle, lead_accepted, lead_promise, lead_reached, new_leader, propose, ready, stepped_down, third_promise, value_out};
 ghost use Rattle.paxos_spec.specs.Votes.{cast};
 
 use crate::quorum::{Members, NOBODY, has, is_majority, joined};
@@ -240,15 +240,6 @@ impl Leader {
             Counted::Chosen => self.restart(Stage::Primary, self.ballot),
         }
         step
-    }
-
-    /// Whether [`Leader::on_accepted`] would answer `Chosen` to this. So its caller learns the value while it is still
-    /// outstanding, and nothing has changed where that fails.
-    pub fn would_choose(&self, from: u8, ballot: u64, slot: u64) -> bool
-        requires { from < 5 }
-        ensures { result ≡ would_choose self.now from ballot slot }
-    {
-        self.accepted_step(from, ballot, slot) == Counted::Chosen
     }
 
     /// It is a Follower from now on. All but the ballot is forgotten.

@@ -65,7 +65,6 @@ fn inherited_at_ballot_6(rt: HostRuntime) -> Result<(), Fail> {
     assert!(rt; is_out(&leader, RELEASE_1));
     assert_eq!(rt; leader.on_accepted(0, 6, 0), Counted::More);
     assert_eq!(rt; leader.on_accepted(1, 6, 0), Counted::More);
-    assert!(rt; leader.would_choose(2, 6, 0));
     assert_eq!(rt; leader.on_accepted(2, 6, 0), Counted::Chosen);
     assert!(rt; leader.ready());
     assert!(rt; leader.is_idle());
@@ -83,7 +82,6 @@ fn what_is_not_counted(rt: HostRuntime) -> Result<(), Fail> {
     assert_eq!(rt; leader.on_accepted(1, 6, 1), Counted::Late);
     assert_eq!(rt; leader.on_accepted(1, 5, 0), Counted::Late);
     assert_eq!(rt; leader.on_accepted(1, 6, 0), Counted::More);
-    assert!(rt; !leader.would_choose(1, 6, 0));
     Ok(())
 }
 

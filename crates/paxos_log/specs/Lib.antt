@@ -1,6 +1,6 @@
 pub mod Facts
 pub mod Steps
 pub mod Laws
-pub mod Durables
+pub mod Sites
 pub mod WorkedRuns
 pub mod World

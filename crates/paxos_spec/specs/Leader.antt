@@ -165,12 +165,3 @@ lead_accepted_of (Some p) l from ballot slot =
 
 abbrev pub lead_accepted : LeaderState → ℕ → ℕ → ℕ → LeaderState × Counted
 lead_accepted l from ballot slot = lead_accepted_of l.out l from ballot slot
-
-abbrev pub is_third : Counted → Bool
-is_third counted.Late = false
-is_third counted.More = false
-is_third counted.Chosen = true
-
--- whether this Accepted is the third, which chooses
-abbrev pub would_choose : LeaderState → ℕ → ℕ → ℕ → Bool
-would_choose l from ballot slot = is_third (lead_accepted l from ballot slot).1
