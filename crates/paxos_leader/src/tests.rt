@@ -56,7 +56,8 @@ fn inheriting(alloc: Global, leader: &mut Leader) -> Result<LeadStep, Fail> {
     Ok(leader.on_promise(2, 6, 0, 0, None, 0)?)
 }
 
-// Replica 1 at ballot 6, to which one of three told a vote of ballot 5: its value is proposed again, and chosen by three.
+// Replica 1 at ballot 6, to which one of three told a vote of ballot 5: its value is proposed again, and chosen by
+// three.
 #[test]
 fn inherited_at_ballot_6(rt: HostRuntime) -> Result<(), Fail> {
     let mut leader = Leader::new(rt.alloc());

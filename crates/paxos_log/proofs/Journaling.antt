@@ -21,7 +21,8 @@ unfolding state_of
 state_more xs x = fold_more xs x new_acceptor
 
 fold_next : (xs : List OwnedEntry) (k : ℕ) (d : OwnedEntry) (a : AcceptorState) → k < length xs
-    → fold follow a (entries_of (take (k + 1) xs)) ≡ follow (fold follow a (entries_of (take k xs))) (entry_of (get_or xs k d))
+    → fold follow a (entries_of (take (k + 1) xs))
+    ≡ follow (fold follow a (entries_of (take k xs))) (entry_of (get_or xs k d))
 fold_next [] k d a lt = absurd (omega arith)
 fold_next (x ∷ xs) zero d a lt = refl
 fold_next (x ∷ xs) (suc k) d a lt =

@@ -1,5 +1,6 @@
 -- Messages that were said, by place.
-use Rattle.std.proofs.Common.{◌≡◌, ℕ, zero, suc, ◌<◌, List, [], ◌∷◌, ◌++◌, length, map, Option, Some, None, slice_get, slice_set, slice_index_or, refl, sym, ap, append-nil, arith}
+use Rattle.std.proofs.Common.{◌≡◌, ℕ, zero, suc, ◌<◌, List, [], ◌∷◌, ◌++◌, length, map, Option, Some, None, slice_get}
+use Rattle.std.proofs.Common.{slice_set, slice_index_or, refl, sym, ap, append-nil, arith}
 use Rattle.std.proofs.lemmas.Option.{slice_get_within}
 use Rattle.paxos_spec.specs.declared.mail.Mail.{Mail}
 use Rattle.paxos_log.specs.declared.posts.Post.{Post}
@@ -8,7 +9,8 @@ use Rattle.paxos_spec.specs.Events.{or_quiet}
 use Rattle.paxos_log.specs.World.{Replica, World, new_replica, replica, apply}
 
 -- one of the first, whatever follows
-pub set_front : (xs ys : List Post) (k : ℕ) (y : Post) → k < length xs → slice_set (xs ++ ys) k y ≡ slice_set xs k y ++ ys
+pub set_front : (xs ys : List Post) (k : ℕ) (y : Post) → k < length xs
+    → slice_set (xs ++ ys) k y ≡ slice_set xs k y ++ ys
 set_front [] ys k y lt = absurd (omega arith)
 set_front (x ∷ xs) ys zero y lt = refl
 set_front (x ∷ xs) ys (suc k) y lt = ap (λ (zs : List Post). x ∷ zs) (set_front xs ys k y (omega arith))

@@ -69,7 +69,8 @@ impl Site {
     #[tactic(auto, using(paxos_replica::proofs::PassedOver::campaign_steps))]
     pub fn campaign(&self, me: u8) -> Result<Option<ReplicaStep>, NoMemory>
         requires { me < 5 }
-        ensures { IfOk result (λ step. or_quiet self.now.memory step ≡ on_campaign me (state_of self.now.entries) self.now.memory) }
+        ensures { IfOk result (λ step.
+            or_quiet self.now.memory step ≡ on_campaign me (state_of self.now.entries) self.now.memory) }
     {
         self.replica.campaign(me)
     }
@@ -77,7 +78,8 @@ impl Site {
     /// Its step where a value is offered.
     #[tactic(auto, using(paxos_replica::proofs::PassedOver::offer_steps))]
     pub fn offer(&self, me: u8, value: &Value) -> Result<Option<ReplicaStep>, NoMemory>
-        ensures { IfOk result (λ step. or_quiet self.now.memory step ≡ on_offer me (state_of self.now.entries) self.now.memory value.now) }
+        ensures { IfOk result (λ step.
+            or_quiet self.now.memory step ≡ on_offer me (state_of self.now.entries) self.now.memory value.now) }
     {
         self.replica.offer(me, value)
     }

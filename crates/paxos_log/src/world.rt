@@ -1,6 +1,7 @@
 ghost use Rattle.std.specs.Prelude.{◌≡◌, ◌<◌, IfOk, OnErr, OnOk, length, option_map, slice_get};
 ghost use Rattle.paxos_acceptor.specs.Seen.{pair_of};
-ghost use Rattle.paxos_log.specs.World.{apply, cut_at, cut_while, delivered, falls, handles, happens, reopens, replica, start, waiting};
+ghost use Rattle.paxos_log.specs.World.{apply, cut_at, cut_while, delivered, falls, handles, happens, new_replica};
+ghost use Rattle.paxos_log.specs.World.{reopens, replica, start, waiting};
 ghost use Rattle.paxos_log.specs.declared.event.PaxosEvent.TheVariants.{Campaign, Offer};
 ghost use Rattle.paxos_spec.specs.Acceptor.{state_of};
 ghost use Rattle.paxos_spec.specs.Events.{or_quiet};
@@ -30,25 +31,31 @@ impl Model for PaxosWorld {
     ghost view = { λ w. record { replicas = w.sites; posts = w.posts.items } };
 }
 
+/// Two replicas that have done nothing.
+fn two_sites(alloc: Global) -> Result<(Site, Site), NoMemory>
+    ensures { IfOk result (λ sites. sites ≡ (new_replica, new_replica)) }
+{
+    let first = Site::new(alloc)?;
+    Ok((first, Site::new(alloc)?))
+}
+
 impl PaxosWorld {
     /// Five replicas that have done nothing.
     pub fn new(alloc: Global) -> Result<PaxosWorld, NoMemory>
         ensures { IfOk result (λ world. world ≡ start) }
     {
+        let (first, second) = two_sites(alloc)?;
+        let (third, fourth) = two_sites(alloc)?;
+        let fifth = Site::new(alloc)?;
         Ok(PaxosWorld {
             alloc,
-            sites: [
-                Site::new(alloc)?,
-                Site::new(alloc)?,
-                Site::new(alloc)?,
-                Site::new(alloc)?,
-                Site::new(alloc)?,
-            ],
+            sites: [first, second, third, fourth, fifth],
             posts: Vec::new(alloc),
         })
     }
 
-    /// The ballot and value that this replica, from 0 to 4, learned at this slot. `None` exactly from its log's length on.
+    /// The ballot and value that this replica, from 0 to 4, learned at this slot. `None` exactly from its log's length
+    /// on.
     pub fn learned(&self, i: u8, slot: u64) -> Option<(u64, Value<'_>)>
         requires { i < 5 }
         ensures { result ≡ option_map pair_of (slice_get (state_of (replica self.now i).entries).log slot) }
@@ -64,8 +71,8 @@ impl PaxosWorld {
     }
 
     /// The event happens. One that names no replica, no message or no value changes nothing. Without memory nothing
-    /// changed. A crash costs a step for each entry of the replica, and a look at each message; the others cost the same
-    /// however long the world has run.
+    /// changed. A crash costs a step for each entry of the replica, and a look at each message; the others cost the
+    /// same however long the world has run.
     pub fn step(&mut self, e: &PaxosEvent) -> Result<(), NoMemory>
         ensures ok { OnOk result (self.new ≡ happens self.old e.now) }
         ensures err { OnErr result (self.new ≡ self.old) }
