@@ -1,5 +1,7 @@
 ghost use Rattle.std.specs.Prelude.{◌≡◌, ◌<◌, ◌^◌, nat_le, option_map, slice_get, IfOk, OnOk, OnErr};
-ghost use Rattle.paxos_spec.specs.Acceptor.{accept_entry, accept_step, acted, chosen_entry, chosen_step, follow, is_late, most_slots, new_acceptor, prepare_entry, prepare_step, reach, stands};
+ghost use Rattle.paxos_spec.specs.Acceptor.{accept_entry, accept_step, acted, chosen_entry, chosen_step, follow};
+ghost use Rattle.paxos_spec.specs.Acceptor.{is_late, most_slots, new_acceptor, prepare_entry, prepare_step, reach};
+ghost use Rattle.paxos_spec.specs.Acceptor.{stands};
 ghost use Rattle.wire_core.specs.declared.entry.Entry.TheVariants as entry;
 ghost use Rattle.paxos_acceptor.specs.Seen.{pair_of, standing};
 ghost use Rattle.paxos_spec.specs.Votes.{vote_seen};
@@ -106,7 +108,8 @@ impl Acceptor {
         Ok(())
     }
 
-    /// A Prepare of this ballot. `Refuse` exactly below the promise, `Again` exactly at it; else the ballot is promised.
+    /// A Prepare of this ballot. `Refuse` exactly below the promise, `Again` exactly at it; else the ballot is
+    /// promised.
     pub fn on_prepare(&mut self, ballot: u64) -> PrepareStep
         ensures step { result ≡ prepare_step self.old.state ballot }
         ensures entry { self.new ≡ acted self.old.state (prepare_entry ballot result) }
@@ -166,8 +169,8 @@ impl Acceptor {
         Ok(step)
     }
 
-    /// The entry that the last step made, which has to be durable before the step's answer is told. `None` exactly where
-    /// that step was none of Promise, Voted and Learned.
+    /// The entry that the last step made, which has to be durable before the step's answer is told. `None` exactly
+    /// where that step was none of Promise, Voted and Learned.
     pub fn durable_entry(&self) -> Option<Entry<'_>>
         ensures { result ≡ self.now.entry }
     {

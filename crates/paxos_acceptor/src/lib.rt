@@ -7,11 +7,11 @@
 //! | input | first that applies |
 //! |---|---|
 //! | Prepare | below the promise: refused; the promise: told again; else promised |
-//! | Accept | below the promise: refused; the slot has its value or the log is full: late; the slot is above the length: behind; the same vote stands: told again; else voted |
-//! | Chosen | late and behind by the same tests; else learned |
+//! | Accept | below the promise: refused; then late and behind; the same vote stands: told again; else voted |
+//! | Chosen | the slot has its value or the log is full: late; the slot is above the length: behind; else learned |
 //!
-//! A vote raises the promise to its ballot. So does what is learned, which clears the vote: the slot that it was for has
-//! its value. Ballots of replicas are 5 or more; a vote of ballot 0 counts as none.
+//! A vote raises the promise to its ballot. So does what is learned, which clears the vote: the slot that it was for
+//! has its value. Ballots of replicas are 5 or more; a vote of ballot 0 counts as none.
 //!
 //! Costs: each call is one look at the vote or at one slot, and the copy of one value, of at most 16 commands.
 #![tactic(auto)]

@@ -1,7 +1,9 @@
 ghost use Rattle.std.specs.Prelude.{◌≡◌, ◌<◌, true, IfOk, OnOk, OnErr};
 ghost use Rattle.std.specs.Option.{option_copied};
-ghost use Rattle.paxos_leader.specs.Seen.{ballot_above, bare};
-ghost use Rattle.paxos_spec.specs.Leader.{arrive, campaign, is_catching, is_idle, lead_accepted, lead_promise, lead_reached, new_leader, propose, ready, stepped_down, third_promise, value_out, would_choose};
+ghost use Rattle.paxos_leader.specs.Seen.{ballot_above};
+ghost use Rattle.paxos_spec.specs.Leader.{arrive, bare, campaign, is_catching, is_idle, lead_accepted, lead_promise};
+ghost use Rattle.paxos_spec.specs.Leader.{lead_reached, new_leader, propose, ready, stepped_down, third_promise};
+ghost use Rattle.paxos_spec.specs.Leader.{value_out};
 ghost use Rattle.paxos_spec.specs.Votes.{cast};
 
 use crate::quorum::{Members, NOBODY, has, is_majority, joined};
@@ -175,10 +177,10 @@ impl Leader {
         Some(ballot)
     }
 
-    /// A Promise of this replica, from 0 to 4: its log has this length, and its vote for the slot at the end is of ballot
-    /// `vote` for this value; without a value, or at ballot 0, it has none. `own` is the length of the own log. `Late`
-    /// exactly where the stage isn't Candidate, the ballot isn't the candidacy's, or this replica's was counted; then
-    /// nothing changed. Without memory nothing changed.
+    /// A Promise of this replica, from 0 to 4: its log has this length, and its vote for the slot at the end is of
+    /// ballot `vote` for this value; without a value, or at ballot 0, it has none. `own` is the length of the own log.
+    /// `Late` exactly where the stage isn't Candidate, the ballot isn't the candidacy's, or this replica's was
+    /// counted; then nothing changed. Without memory nothing changed.
     pub fn on_promise(
         &mut self,
         from: u8,
@@ -189,7 +191,8 @@ impl Leader {
         own: u64,
     ) -> Result<LeadStep, NoMemory>
         requires { from < 5 }
-        ensures ok { IfOk result (λ step. (self.new, step) ≡ lead_promise self.old from ballot length (cast vote (option_copied value.entry)) own) }
+        ensures ok { IfOk result (λ step.
+            (self.new, step) ≡ lead_promise self.old from ballot length (cast vote (option_copied value.entry)) own) }
         ensures err { OnErr result (self.new ≡ self.old) }
     {
         if self.stage != Stage::Candidate || self.ballot != ballot || self.tally.has(from) {
@@ -203,7 +206,8 @@ impl Leader {
         }
     }
 
-    /// The log reached the length that was sought: the arrival there. The stage is Catching, and the length is [`Leader::sought`].
+    /// The log reached the length that was sought: the arrival there. The stage is Catching, and the length is
+    /// [`Leader::sought`].
     pub fn reached(&mut self) -> LeadStep
         requires { is_catching self.old.stage ≡ true }
         ensures { (self.new, result) ≡ lead_reached self.old }
@@ -240,15 +244,6 @@ impl Leader {
             Counted::Chosen => self.restart(Stage::Primary, self.ballot),
         }
         step
-    }
-
-    /// Whether [`Leader::on_accepted`] would answer `Chosen` to this. So its caller learns the value while it is still
-    /// outstanding, and nothing has changed where that fails.
-    pub fn would_choose(&self, from: u8, ballot: u64, slot: u64) -> bool
-        requires { from < 5 }
-        ensures { result ≡ would_choose self.now from ballot slot }
-    {
-        self.accepted_step(from, ballot, slot) == Counted::Chosen
     }
 
     /// It is a Follower from now on. All but the ballot is forgotten.

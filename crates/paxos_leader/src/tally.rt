@@ -33,7 +33,12 @@ impl Model for Tally {
 
     ghost use Rattle.paxos_spec.specs.Votes.{vote_seen};
 
-    ghost view = { λ t. record { tellers = t.tellers; longest = t.longest; source = t.source; best = vote_seen t.best } };
+    ghost view = { λ t. record {
+      tellers = t.tellers;
+      longest = t.longest;
+      source = t.source;
+      best = vote_seen t.best;
+    } };
 }
 
 /// The vote as it was told, in a copy: none without a ballot above 0 and a value.

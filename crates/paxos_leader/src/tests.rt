@@ -56,7 +56,8 @@ fn inheriting(alloc: Global, leader: &mut Leader) -> Result<LeadStep, Fail> {
     Ok(leader.on_promise(2, 6, 0, 0, None, 0)?)
 }
 
-// Replica 1 at ballot 6, to which one of three told a vote of ballot 5: its value is proposed again, and chosen by three.
+// Replica 1 at ballot 6, to which one of three told a vote of ballot 5: its value is proposed again, and chosen by
+// three.
 #[test]
 fn inherited_at_ballot_6(rt: HostRuntime) -> Result<(), Fail> {
     let mut leader = Leader::new(rt.alloc());
@@ -65,7 +66,6 @@ fn inherited_at_ballot_6(rt: HostRuntime) -> Result<(), Fail> {
     assert!(rt; is_out(&leader, RELEASE_1));
     assert_eq!(rt; leader.on_accepted(0, 6, 0), Counted::More);
     assert_eq!(rt; leader.on_accepted(1, 6, 0), Counted::More);
-    assert!(rt; leader.would_choose(2, 6, 0));
     assert_eq!(rt; leader.on_accepted(2, 6, 0), Counted::Chosen);
     assert!(rt; leader.ready());
     assert!(rt; leader.is_idle());
@@ -83,7 +83,6 @@ fn what_is_not_counted(rt: HostRuntime) -> Result<(), Fail> {
     assert_eq!(rt; leader.on_accepted(1, 6, 1), Counted::Late);
     assert_eq!(rt; leader.on_accepted(1, 5, 0), Counted::Late);
     assert_eq!(rt; leader.on_accepted(1, 6, 0), Counted::More);
-    assert!(rt; !leader.would_choose(1, 6, 0));
     Ok(())
 }
 

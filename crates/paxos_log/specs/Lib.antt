@@ -1,4 +1,4 @@
-pub mod Durables
+pub mod Sites
 pub mod World
 pub mod Told
 pub mod WorkedRuns

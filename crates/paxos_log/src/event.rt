@@ -10,7 +10,8 @@ pub enum PaxosEvent {
     Offer(u8, ValueBytes),
     /// The message of this number arrives, once more perhaps. The first that was ever sent has number 1.
     Deliver(u64),
-    /// This replica goes down and opens again from its entries. Where the flag is set, it goes down while it handles the
-    /// least message to it that was never delivered: the entry of that step is kept, and its messages are never sent.
+    /// This replica goes down and opens again from its entries. Where the flag is set, it goes down while it handles
+    /// the least message to it that was never delivered: the entry of that step is kept, and its messages are never
+    /// sent.
     Crash(u8, bool),
 }

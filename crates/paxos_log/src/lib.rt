@@ -8,9 +8,7 @@
 //! | module | what a reader finds |
 //! |---|---|
 //! | `world`, `event` | [`PaxosWorld`], [`PaxosEvent`] |
-//! | `replica` | a replica: an acceptor with its entries, a leader, what it remembers |
-//! | `candidacy`, `voting`, `learning`, `mailing` | what it does with each message, message group by message group |
-//! | `journaled`, `durable` | an acceptor beside its entries, from which it opens again |
+//! | `site` | a replica beside all entries that it ever made, from which it opens again |
 //! | `posts` | messages as they were sent |
 //! | `laws` | the laws |
 //!
@@ -21,16 +19,10 @@
 //! | runs to look at | `WorkedRuns` |
 #![tactic(auto)]
 
-mod candidacy;
-mod durable;
 mod event;
-mod journaled;
 mod laws;
-mod learning;
-mod mailing;
 mod posts;
-mod replica;
-mod voting;
+mod site;
 mod world;
 
 pub use event::PaxosEvent;

@@ -1,36 +1,17 @@
-ghost use Rattle.std.specs.Prelude.{◌≡◌, ◌<◌, ◌==◌, ◌++◌, ◌∷◌, [], not, filter, map, position, slice_set, true, vec_capacity, vec_len, IfOk};
+ghost use Rattle.std.specs.Prelude.{◌≡◌, ◌<◌, Some, map, position, slice_set, true, vec_len, IfOk};
 ghost use Rattle.paxos_log.specs.World.{posted, waits_for};
-ghost use Rattle.paxos_spec.specs.Five.{five};
-ghost use Rattle.paxos_spec.specs.Leader.{value_out};
-ghost use Rattle.paxos_spec.specs.Replica.{accept_out, mail};
+ghost use Rattle.paxos_replica.specs.Seen.{mails_of};
 
-use paxos_leader::Leader;
+use paxos_replica::Said;
 use paxos_spec::{Body, Mail};
 use std::alloc::Global;
-use wire_core::{NoMemory, OwnedValue};
+use wire_core::NoMemory;
 
 /// A message that was sent, and whether it was ever delivered.
 #[derive(Debug, Drop)]
 pub struct Post {
     pub mail: Mail,
     pub taken: bool,
-}
-
-/// All five replicas.
-pub const FIVE: [u8; 5] = [0, 1, 2, 3, 4];
-
-/// All replicas but this one.
-pub fn others(me: u8) -> &'static [u8]
-    requires { me < 5 }
-    ensures { result.now ≡ filter (λ i. not (i == me)) five }
-{
-    match me {
-        0 => &[1, 2, 3, 4],
-        1 => &[0, 2, 3, 4],
-        2 => &[0, 1, 3, 4],
-        3 => &[0, 1, 2, 4],
-        _ => &[0, 1, 2, 3],
-    }
 }
 
 /// A copy of what is said.
@@ -94,16 +75,16 @@ pub fn copy_of_mail(alloc: Global, mail: &Mail) -> Result<Mail, NoMemory>
     })
 }
 
-/// The same, said to each of these.
-pub fn posts_to(alloc: Global, me: u8, targets: &[u8], body: &Body) -> Result<Vec<Post>, NoMemory>
-    ensures { IfOk result (λ posts. posts.items ≡ map posted (map (mail me body.now) targets.now)) }
+/// What a step says, to each of its recipients.
+pub fn posts_of(alloc: Global, said: &Said) -> Result<Vec<Post>, NoMemory>
+    ensures { IfOk result (λ posts. posts.items ≡ map posted (mails_of (Some said.now))) }
 {
     let mut posts = Vec::new(alloc);
-    for target in targets {
-        let body = copy_of_body(alloc, body)?;
+    for target in said.recipients() {
+        let body = copy_of_body(alloc, &said.body)?;
         posts.push(Post {
             mail: Mail {
-                sender: me,
+                sender: said.sender,
                 target: *target,
                 body,
             },
@@ -111,40 +92,6 @@ pub fn posts_to(alloc: Global, me: u8, targets: &[u8], body: &Body) -> Result<Ve
         })?;
     }
     Ok(posts)
-}
-
-/// The Accept of what is outstanding, to all five.
-pub fn accepts(alloc: Global, me: u8, at: u64, leader: &Leader) -> Result<Vec<Post>, NoMemory>
-    ensures { IfOk result (λ posts. posts.items ≡ map posted (accept_out me at leader.now)) }
-{
-    match leader.outstanding() {
-        None => Ok(Vec::new(alloc)),
-        Some(value) => {
-            let body = Body::Accept {
-                ballot: leader.ballot(),
-                slot: at,
-                value: OwnedValue::of(alloc, &value)?,
-            };
-            posts_to(alloc, me, &FIVE, &body)
-        }
-    }
-}
-
-/// One more message, for which there is room.
-pub fn say(posts: &mut Vec<Post>, me: u8, target: u8, body: Body)
-    requires { vec_len posts.old < vec_capacity posts.old }
-    ensures { posts.new.items ≡ posts.old.items ++ posted (mail me body target) ∷ [] }
-{
-    posts
-        .push(Post {
-            mail: Mail {
-                sender: me,
-                target,
-                body,
-            },
-            taken: false,
-        })
-        .unwrap();
 }
 
 /// The message of this place counts as delivered.

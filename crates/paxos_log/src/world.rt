@@ -1,12 +1,15 @@
 ghost use Rattle.std.specs.Prelude.{◌≡◌, ◌<◌, IfOk, OnErr, OnOk, length, option_map, slice_get};
 ghost use Rattle.paxos_acceptor.specs.Seen.{pair_of};
-ghost use Rattle.paxos_log.specs.World.{cut_at, cut_while, delivered, falls, handles, happens, reopens, replica, start, waiting};
+ghost use Rattle.paxos_log.specs.World.{apply, cut_at, cut_while, delivered, falls, handles, happens, new_replica};
+ghost use Rattle.paxos_log.specs.World.{reopens, replica, start, waiting};
 ghost use Rattle.paxos_log.specs.declared.event.PaxosEvent.TheVariants.{Campaign, Offer};
 ghost use Rattle.paxos_spec.specs.Acceptor.{state_of};
+ghost use Rattle.paxos_spec.specs.Events.{or_quiet};
 
 use crate::event::PaxosEvent;
-use crate::posts::{Post, copy_of_mail, take, waiting};
-use crate::replica::Replica;
+use crate::posts::{Post, copy_of_mail, posts_of, take, waiting};
+use crate::site::Site;
+use paxos_replica::ReplicaStep;
 use paxos_spec::Mail;
 use std::alloc::Global;
 use std::marker::Model;
@@ -16,7 +19,7 @@ use wire_core::{NoMemory, Value};
 #[derive(Debug, Drop)]
 pub struct PaxosWorld {
     alloc: Global,
-    replicas: [Replica; 5],
+    sites: [Site; 5],
     posts: Vec<Post>,
 }
 
@@ -25,7 +28,15 @@ impl Model for PaxosWorld {
 
     ghost Value = { World };
 
-    ghost view = { λ w. record { replicas = w.replicas; posts = w.posts.items } };
+    ghost view = { λ w. record { replicas = w.sites; posts = w.posts.items } };
+}
+
+/// Two replicas that have done nothing.
+fn two_sites(alloc: Global) -> Result<(Site, Site), NoMemory>
+    ensures { IfOk result (λ sites. sites ≡ (new_replica, new_replica)) }
+{
+    let first = Site::new(alloc)?;
+    Ok((first, Site::new(alloc)?))
 }
 
 impl PaxosWorld {
@@ -33,25 +44,23 @@ impl PaxosWorld {
     pub fn new(alloc: Global) -> Result<PaxosWorld, NoMemory>
         ensures { IfOk result (λ world. world ≡ start) }
     {
+        let (first, second) = two_sites(alloc)?;
+        let (third, fourth) = two_sites(alloc)?;
+        let fifth = Site::new(alloc)?;
         Ok(PaxosWorld {
             alloc,
-            replicas: [
-                Replica::new(alloc)?,
-                Replica::new(alloc)?,
-                Replica::new(alloc)?,
-                Replica::new(alloc)?,
-                Replica::new(alloc)?,
-            ],
+            sites: [first, second, third, fourth, fifth],
             posts: Vec::new(alloc),
         })
     }
 
-    /// The ballot and value that this replica, from 0 to 4, learned at this slot. `None` exactly from its log's length on.
+    /// The ballot and value that this replica, from 0 to 4, learned at this slot. `None` exactly from its log's length
+    /// on.
     pub fn learned(&self, i: u8, slot: u64) -> Option<(u64, Value<'_>)>
         requires { i < 5 }
         ensures { result ≡ option_map pair_of (slice_get (state_of (replica self.now i).entries).log slot) }
     {
-        self.replicas[usize::from(i)].learned(slot)
+        self.sites[usize::from(i)].learned(slot)
     }
 
     /// Every message that was ever sent, from the first on.
@@ -62,8 +71,8 @@ impl PaxosWorld {
     }
 
     /// The event happens. One that names no replica, no message or no value changes nothing. Without memory nothing
-    /// changed. A crash costs a step for each entry of the replica, and a look at each message; the others cost the same
-    /// however long the world has run.
+    /// changed. A crash costs a step for each entry of the replica, and a look at each message; the others cost the
+    /// same however long the world has run.
     pub fn step(&mut self, e: &PaxosEvent) -> Result<(), NoMemory>
         ensures ok { OnOk result (self.new ≡ happens self.old e.now) }
         ensures err { OnErr result (self.new ≡ self.old) }
@@ -98,13 +107,43 @@ impl PaxosWorld {
         Ok(())
     }
 
+    /// The replica takes this step: its entry and its messages are kept.
     #[tactic(auto, unfolding(crate::specs::World::apply))]
+    fn take(&mut self, i: u8, step: ReplicaStep) -> Result<(), NoMemory>
+        requires { i < 5 }
+        ensures ok { OnOk result (self.new ≡ apply self.old i step) }
+        ensures err { OnErr result (self.new ≡ self.old) }
+    {
+        let mut posts = match step.said() {
+            None => Vec::new(self.alloc),
+            Some(said) => posts_of(self.alloc, said)?,
+        };
+        self.posts.reserve(posts.len())?;
+        self.sites[usize::from(i)].take(self.alloc, step)?;
+        self.posts.append(&mut posts).unwrap();
+        Ok(())
+    }
+
+    /// The same, where there is a step.
+    #[tactic(auto, using(crate::proofs::Posting::none_applied))]
+    fn act(&mut self, i: u8, step: Option<ReplicaStep>) -> Result<(), NoMemory>
+        requires { i < 5 }
+        ensures ok { OnOk result (self.new ≡ apply self.old i (or_quiet (replica self.old i).memory step)) }
+        ensures err { OnErr result (self.new ≡ self.old) }
+    {
+        match step {
+            None => Ok(()),
+            Some(step) => self.take(i, step),
+        }
+    }
+
     fn campaign(&mut self, i: u8) -> Result<(), NoMemory>
         requires { i < 5 }
         ensures ok { OnOk result (self.new ≡ happens self.old (Campaign i)) }
         ensures err { OnErr result (self.new ≡ self.old) }
     {
-        self.replicas[usize::from(i)].campaign(self.alloc, i, &mut self.posts)
+        let step = self.sites[usize::from(i)].campaign(i)?;
+        self.act(i, step)
     }
 
     #[tactic(auto, unfolding(crate::specs::World::apply))]
@@ -117,7 +156,8 @@ impl PaxosWorld {
             Err(_) => Ok(()),
             Ok((value, len)) => {
                 if len == bytes.len() {
-                    self.replicas[usize::from(i)].offer(self.alloc, i, &value, &mut self.posts)
+                    let step = self.sites[usize::from(i)].offer(i, &value)?;
+                    self.act(i, step)
                 } else {
                     Ok(())
                 }
@@ -132,10 +172,7 @@ impl PaxosWorld {
         ensures ok { OnOk result (self.new ≡ reopens self.old i) }
         ensures err { OnErr result (self.new ≡ self.old) }
     {
-        let mut replica = self.replicas[usize::from(i)].copy(self.alloc)?;
-        replica.forget(self.alloc);
-        self.replicas[usize::from(i)] = replica;
-        Ok(())
+        self.sites[usize::from(i)].reopen(self.alloc)
     }
 
     /// The replica handles the message of this place.
@@ -146,7 +183,8 @@ impl PaxosWorld {
         ensures ok { OnOk result (self.new ≡ handles self.old at i mail) }
         ensures err { OnErr result (self.new ≡ self.old) }
     {
-        self.replicas[usize::from(i)].on_mail(self.alloc, i, &mail, &mut self.posts)?;
+        let step = self.sites[usize::from(i)].on_mail(i, &mail)?;
+        self.act(i, step)?;
         take(&mut self.posts, at, mail);
         Ok(())
     }
@@ -170,8 +208,7 @@ impl PaxosWorld {
         }
     }
 
-    /// The replica goes down while it handles the message of this place: the step is taken on a copy, of which the
-    /// entries stay.
+    /// The replica goes down while it handles the message of this place: of its step the entry alone is kept.
     #[tactic(auto, using(crate::proofs::Posting::none_added), unfolding(crate::specs::World::apply))]
     fn fall(&mut self, at: usize, i: u8, mail: Mail) -> Result<(), NoMemory>
         requires place { at < length self.old.posts }
@@ -179,12 +216,11 @@ impl PaxosWorld {
         ensures ok { OnOk result (self.new ≡ falls self.old at i mail) }
         ensures err { OnErr result (self.new ≡ self.old) }
     {
-        let mut replica = self.replicas[usize::from(i)].copy(self.alloc)?;
-        let mut unsent = Vec::new(self.alloc);
-        replica.on_mail(self.alloc, i, &mail, &mut unsent)?;
-        replica.forget(self.alloc);
+        match self.sites[usize::from(i)].on_mail(i, &mail)? {
+            None => self.reopen(i)?,
+            Some(step) => self.sites[usize::from(i)].fall(self.alloc, step)?,
+        }
         take(&mut self.posts, at, mail);
-        self.replicas[usize::from(i)] = replica;
         Ok(())
     }
 

@@ -1,5 +1,6 @@
 -- What doesn't count is a step that changes nothing.
-use Rattle.std.proofs.Common.{◌≡◌, ℕ, Bool, true, false, not, ◌&&◌, nat_lt, ◌==◌, max, if◌then◌else◌, Option, Some, None, is_some, refl, sym, ap, slice_get}
+use Rattle.std.proofs.Common.{◌≡◌, ℕ, Bool, true, false, not, ◌&&◌, nat_lt, ◌==◌, max, if◌then◌else◌, Option, Some}
+use Rattle.std.proofs.Common.{None, is_some, refl, sym, ap, slice_get}
 use Rattle.paxos_spec.specs.declared.mail.Body.{Body}
 use Rattle.paxos_spec.specs.declared.mail.Body.TheVariants.{Prepare, Promise, Accept, Accepted, Refuse, Chosen, Fetch}
 use Rattle.paxos_spec.specs.declared.steps.AcceptStep.{AcceptStep}
@@ -14,9 +15,13 @@ use Rattle.paxos_spec.specs.declared.cast.Cast.{Cast}
 use Rattle.paxos_spec.specs.Votes.{Value, cast}
 use Rattle.paxos_spec.specs.Five.{has, joined, how_many}
 use Rattle.paxos_spec.specs.Acceptor.{reach, accept_step, chosen_step}
-use Rattle.paxos_spec.specs.Leader.{LeaderState, Tally, tallied, with_tally, arrive, third_promise, lead_promise, is_candidate, is_primary, campaign, lead_accepted, value_out}
-use Rattle.paxos_spec.specs.Replica.{Memory, Out, quiet, accepted, learned, fetched, led_by, tallied_by, campaigned_by, is_next, may_propose, on_promise, on_accept, on_accepted, on_refuse, on_chosen, on_message, on_campaign, on_offer}
-use Rattle.paxos_spec.specs.Events.{Replica, if_counts, or_quiet, step_at, step_at_campaign, step_at_offer, lead_counts, accept_counts, chosen_counts, is_counted, refuse_counts}
+use Rattle.paxos_spec.specs.Leader.{LeaderState, Tally, tallied, with_tally, arrive, third_promise, lead_promise}
+use Rattle.paxos_spec.specs.Leader.{is_candidate, is_primary, campaign, lead_accepted, value_out}
+use Rattle.paxos_spec.specs.Replica.{Memory, Out, quiet, accepted, learned, fetched, led_by, tallied_by, campaigned_by}
+use Rattle.paxos_spec.specs.Replica.{is_next, may_propose, on_promise, on_accept, on_accepted, on_refuse, on_chosen}
+use Rattle.paxos_spec.specs.Replica.{on_message, on_campaign, on_offer}
+use Rattle.paxos_spec.specs.Events.{Replica, if_counts, or_quiet, step_at, step_at_campaign, step_at_offer, lead_counts}
+use Rattle.paxos_spec.specs.Events.{accept_counts, chosen_counts, is_counted, refuse_counts}
 
 -- what counts is its step, and what doesn't has to be quiet
 counted_or_quiet : (b : Bool) (m : Memory) (o : Out) → (b ≡ false → o ≡ quiet m) → or_quiet m (if_counts b o) ≡ o
@@ -71,22 +76,26 @@ late_chosen me r from slot ballot value chosen.Late e = refl
 late_chosen me r from slot ballot value (chosen.Behind length) e = absurd (cc)
 late_chosen me r from slot ballot value chosen.Learned e = absurd (cc)
 
-late_fetch : (me : ℕ) (m : Memory) (from slot : ℕ) (x : Option Cast) → is_some x ≡ false → fetched me m from slot x ≡ quiet m
+late_fetch : (me : ℕ) (m : Memory) (from slot : ℕ) (x : Option Cast) → is_some x ≡ false
+    → fetched me m from slot x ≡ quiet m
 late_fetch me m from slot None e = refl
 late_fetch me m from slot (Some x) e = absurd (cc)
 
-not_counted : (me : ℕ) (m : Memory) (ballot slot : ℕ) (out : Option Value) (l : LeaderState) (c : Counted) → is_counted c ≡ false
+not_counted : (me : ℕ) (m : Memory) (ballot slot : ℕ) (out : Option Value) (l : LeaderState) (c : Counted)
+    → is_counted c ≡ false
     → tallied_by me m ballot slot out (l, c) ≡ quiet m
 not_counted me m ballot slot out l counted.Late e = refl
 not_counted me m ballot slot out l counted.More e = absurd (cc)
 not_counted me m ballot slot out l counted.Chosen e = absurd (cc)
 
-late_accepted : (b : Bool) (me : ℕ) (m : Memory) (ballot slot : ℕ) (out : Option Value) (x : LeaderState × Counted) → (b && is_counted x.1) ≡ false
+late_accepted : (b : Bool) (me : ℕ) (m : Memory) (ballot slot : ℕ) (out : Option Value) (x : LeaderState × Counted)
+    → (b && is_counted x.1) ≡ false
     → (if b then tallied_by me m ballot slot out x else quiet m) ≡ quiet m
 late_accepted true me m ballot slot out x e = not_counted me m ballot slot out x.0 x.1 e
 late_accepted false me m ballot slot out x e = refl
 
-no_ballot : (me : ℕ) (m : Memory) (l : LeaderState) (ballot : Option ℕ) → is_some ballot ≡ false → campaigned_by me m (l, ballot) ≡ quiet m
+no_ballot : (me : ℕ) (m : Memory) (l : LeaderState) (ballot : Option ℕ) → is_some ballot ≡ false
+    → campaigned_by me m (l, ballot) ≡ quiet m
 no_ballot me m l None e = refl
 no_ballot me m l (Some ballot) e = absurd (cc)
 
@@ -95,23 +104,33 @@ no_campaign : (b : Bool) (me : ℕ) (m : Memory) (x : LeaderState × Option ℕ)
 no_campaign true me m x e = refl
 no_campaign false me m x e = no_ballot me m x.0 x.1 e
 
-pub message_steps : (me from : ℕ) (r : Replica) (body : Body) → or_quiet r.memory (step_at me r from body) ≡ on_message me r.acceptor r.memory from body
+pub message_steps : (me from : ℕ) (r : Replica) (body : Body)
+    → or_quiet r.memory (step_at me r from body) ≡ on_message me r.acceptor r.memory from body
 unfolding on_promise on_accept on_accepted on_refuse on_chosen
 message_steps me from r (Prepare ballot) = refl
 message_steps me from r (Promise ballot length vote value) = counted_or_quiet _ r.memory _
-    (λ e. ap (led_by me (reach r.acceptor) r.memory) (late_lead r.memory.leader from ballot length (cast vote value) (reach r.acceptor) e))
-message_steps me from r (Accept ballot slot value) = counted_or_quiet _ r.memory _ (late_accept me r.memory from ballot slot value (accept_step r.acceptor ballot slot value))
+    (λ e. ap (led_by me (reach r.acceptor) r.memory)
+    (late_lead r.memory.leader from ballot length (cast vote value) (reach r.acceptor) e))
+message_steps me from r (Accept ballot slot value) = counted_or_quiet _ r.memory _
+    (late_accept me r.memory from ballot slot value (accept_step r.acceptor ballot slot value))
 message_steps me from r (Accepted ballot slot) = counted_or_quiet _ r.memory _
-    (late_accepted (is_next r.acceptor slot) me r.memory ballot slot (value_out r.memory.leader.out) (lead_accepted r.memory.leader from ballot slot))
-message_steps me from r (Refuse ballot promised) = counted_or_quiet _ r.memory _ (else_of (refuse_counts r.memory ballot promised) _ _)
-message_steps me from r (Chosen slot ballot value) = counted_or_quiet _ r.memory _ (late_chosen me r from slot ballot value (chosen_step r.acceptor slot))
-message_steps me from r (Fetch slot) = counted_or_quiet _ r.memory _ (late_fetch me r.memory from slot (slice_get r.acceptor.log slot))
+    (late_accepted (is_next r.acceptor slot) me r.memory ballot slot
+    (value_out r.memory.leader.out) (lead_accepted r.memory.leader from ballot slot))
+message_steps me from r (Refuse ballot promised) = counted_or_quiet _ r.memory _
+    (else_of (refuse_counts r.memory ballot promised) _ _)
+message_steps me from r (Chosen slot ballot value) = counted_or_quiet _ r.memory _
+    (late_chosen me r from slot ballot value (chosen_step r.acceptor slot))
+message_steps me from r (Fetch slot) = counted_or_quiet _ r.memory _
+    (late_fetch me r.memory from slot (slice_get r.acceptor.log slot))
 
-pub campaign_steps : (me : ℕ) (r : Replica) → or_quiet r.memory (step_at_campaign me r) ≡ on_campaign me r.acceptor r.memory
+pub campaign_steps : (me : ℕ) (r : Replica)
+    → or_quiet r.memory (step_at_campaign me r) ≡ on_campaign me r.acceptor r.memory
 unfolding on_campaign
 campaign_steps me r = counted_or_quiet _ r.memory _
-    (no_campaign (is_primary r.memory.leader.stage) me r.memory (campaign r.memory.leader (max r.acceptor.promise r.memory.seen) me))
+    (no_campaign (is_primary r.memory.leader.stage) me r.memory
+    (campaign r.memory.leader (max r.acceptor.promise r.memory.seen) me))
 
-pub offer_steps : (me : ℕ) (r : Replica) (value : Value) → or_quiet r.memory (step_at_offer me r value) ≡ on_offer me r.acceptor r.memory value
+pub offer_steps : (me : ℕ) (r : Replica) (value : Value)
+    → or_quiet r.memory (step_at_offer me r value) ≡ on_offer me r.acceptor r.memory value
 unfolding on_offer
 offer_steps me r value = counted_or_quiet _ r.memory _ (else_of (may_propose r.acceptor r.memory.leader) _ _)

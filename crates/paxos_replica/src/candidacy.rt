@@ -12,9 +12,9 @@ use paxos_spec::{Body, LeadStep, PrepareStep, Stage};
 use wire_core::{NoMemory, OwnedValue, Value};
 
 impl Replica {
-    /// It runs for election, as replica `me`, from 0 to 4: it promises the least ballot of its own in a later round than
-    /// all that it promised or heard of, and asks all five for their promises. `None` exactly where it is primary or
-    /// that ballot exceeds 64 bits.
+    /// It runs for election, as replica `me`, from 0 to 4: it promises the least ballot of its own in a later round
+    /// than all that it promised or heard of, and asks all five for their promises. `None` exactly where it is primary
+    /// or that ballot exceeds 64 bits.
     #[tactic(auto, unfolding(paxos_spec::specs::Replica::on_campaign))]
     pub fn campaign(&self, me: u8) -> Result<Option<ReplicaStep>, NoMemory>
         requires { me < 5 }
@@ -99,7 +99,8 @@ impl Replica {
         value: Option<&Value>,
     ) -> Result<Option<ReplicaStep>, NoMemory>
         requires { from < 5 }
-        ensures { IfOk result (λ step. step ≡ step_at_promise me self.now from ballot length (cast vote (option_copied value.entry))) }
+        ensures { IfOk result (λ step.
+            step ≡ step_at_promise me self.now from ballot length (cast vote (option_copied value.entry))) }
     {
         let own = self.acceptor.length();
         let mut leader = self.memory.leader.copy()?;

@@ -51,7 +51,8 @@ impl Replica {
 
     /// The step of what is learned.
     fn learn(&self, me: u8, ballot: u64, at: u64, value: &Value) -> Result<ReplicaStep, NoMemory>
-        ensures { IfOk result (λ step. step ≡ once_learned (entry.Learn ballot value.now) self.now.memory (onwards me (max self.now.acceptor.promise ballot) at self.now.memory)) }
+        ensures { IfOk result (λ step. step ≡ once_learned (entry.Learn ballot value.now) self.now.memory
+            (onwards me (max self.now.acceptor.promise ballot) at self.now.memory)) }
     {
         let cast = cast(self.alloc, ballot, value)?;
         let promise = self.acceptor.promised().max(ballot);
@@ -63,8 +64,8 @@ impl Replica {
         ))
     }
 
-    /// A Chosen comes: at this slot this value was chosen, at this ballot. `None` exactly where the slot has its value or
-    /// the log is full.
+    /// A Chosen comes: at this slot this value was chosen, at this ballot. `None` exactly where the slot has its value
+    /// or the log is full.
     #[tactic(auto, unfolding(paxos_spec::specs::Replica::on_chosen))]
     pub fn on_chosen(
         &self,
@@ -108,8 +109,8 @@ impl Replica {
         }
     }
 
-    /// Another replica says that it leads at this ballot, with a log of this length. Below the promise it is refused; else
-    /// the ballot is heard of, and what this log lacks is fetched.
+    /// Another replica says that it leads at this ballot, with a log of this length. Below the promise it is refused;
+    /// else the ballot is heard of, and what this log lacks is fetched.
     #[tactic(auto, unfolding(paxos_spec::specs::Events::on_lead))]
     pub fn on_lead(
         &self,

@@ -4,8 +4,8 @@
 //! two halves, so that whoever makes entries durable and sends messages can do so in between, and nothing has changed
 //! where that fails.
 //!
-//! 1. An event is asked for its step: [`Replica::campaign`], [`Replica::offer`], and a call for each message. The replica
-//!    stays as it is. The answer is a [`ReplicaStep`], or `None` where the event doesn't count.
+//! 1. An event is asked for its step: [`Replica::campaign`], [`Replica::offer`], and a call for each message. The
+//!    replica stays as it is. The answer is a [`ReplicaStep`], or `None` where the event doesn't count.
 //! 2. [`ReplicaStep::entry`] is made durable, [`ReplicaStep::said`] is sent, and [`Replica::take`] takes the step.
 //!
 //! | event | call | doesn't count |
@@ -22,8 +22,8 @@
 //! | any of these messages | [`Replica::on_message`] | the same |
 //! | another one says that it leads | [`Replica::on_lead`] | never |
 //!
-//! What changes memory alone is done at once: [`Replica::step_down`], [`Replica::on_epoch`]. [`Replica::recover`] folds in
-//! the entries of a journal, one by one.
+//! What changes memory alone is done at once: [`Replica::step_down`], [`Replica::on_epoch`]. [`Replica::recover`] folds
+//! in the entries of a journal, one by one.
 //!
 //! | module | what it has |
 //! |---|---|
@@ -33,8 +33,8 @@
 //! | `memory` | what it has in memory alone |
 //! | `laws` | [`passed_over`] |
 //!
-//! Costs: each call copies at most the value that the leader keeps, that of the entry and that of what is said, each of at
-//! most 16 commands. No call looks at more than one slot of the log.
+//! Costs: each call copies at most the value that the leader keeps, that of the entry and that of what is said, each of
+//! at most 16 commands. No call looks at more than one slot of the log.
 #![tactic(auto)]
 
 mod candidacy;
@@ -53,3 +53,6 @@ pub use laws::passed_over;
 pub use replica::Replica;
 pub use said::{Recipients, Said};
 pub use step::ReplicaStep;
+
+#[cfg(test)]
+mod tests;

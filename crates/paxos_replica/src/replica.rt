@@ -118,6 +118,13 @@ impl Replica {
         self.memory.seen
     }
 
+    /// The greatest length that it heard of last, at first 0: what its log lacks up to there is fetched.
+    pub fn goal(&self) -> u64
+        ensures { result ≡ self.now.memory.goal }
+    {
+        self.memory.goal
+    }
+
     /// The ballot below which nothing is followed, at first 0.
     pub fn promised(&self) -> u64
         ensures { result ≡ self.now.acceptor.promise }

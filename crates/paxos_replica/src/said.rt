@@ -1,4 +1,4 @@
-ghost use Rattle.std.specs.Prelude.{◌≡◌, ◌<◌, ◌==◌, ◌∷◌, [], Some, not, filter, IfOk};
+ghost use Rattle.std.specs.Prelude.{◌≡◌, ◌==◌, ◌∷◌, [], Some, not, filter, IfOk};
 ghost use Rattle.paxos_replica.specs.Seen.{mails_of, recipients_of};
 ghost use Rattle.paxos_spec.specs.Five.{five};
 ghost use Rattle.paxos_spec.specs.Replica.{accept_out, mail};
@@ -34,7 +34,6 @@ pub struct Said {
 
 /// All replicas but this one.
 fn others(me: u8) -> &'static [u8]
-    requires { me < 5 }
     ensures { result.now ≡ filter (λ i. not (i == me)) five }
 {
     match me {
@@ -42,7 +41,8 @@ fn others(me: u8) -> &'static [u8]
         1 => &[0, 2, 3, 4],
         2 => &[0, 1, 3, 4],
         3 => &[0, 1, 2, 4],
-        _ => &[0, 1, 2, 3],
+        4 => &[0, 1, 2, 3],
+        _ => &FIVE,
     }
 }
 
@@ -78,7 +78,6 @@ impl Said {
 
     /// The recipients, in ascending order.
     pub fn recipients(&self) -> &[u8]
-        requires { self.now.sender < 5 }
         ensures { result.now ≡ recipients_of self.now.sender self.now.recipients }
     {
         match &self.recipients {

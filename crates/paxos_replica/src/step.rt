@@ -5,7 +5,7 @@ ghost use Rattle.paxos_spec.specs.Replica.{quiet, reply};
 
 use crate::entry::OwnedEntry;
 use crate::memory::Memory;
-use crate::said::{Recipients, Said};
+use crate::said::Said;
 use paxos_spec::Body;
 use std::alloc::Global;
 use std::marker::Model;
@@ -60,12 +60,7 @@ impl ReplicaStep {
     pub(crate) fn reply(memory: Memory, me: u8, body: Body, to: u8) -> ReplicaStep
         ensures { result ≡ reply memory me body to }
     {
-        let said = Said {
-            sender: me,
-            recipients: Recipients::One(to),
-            body,
-        };
-        ReplicaStep::new(None, memory, Some(said))
+        ReplicaStep::new(None, memory, Some(Said::to(me, body, to)))
     }
 
     /// The memory after it; the rest is let go.

@@ -112,7 +112,8 @@ impl Replica {
         value: &Value,
         leader: Leader,
     ) -> Result<ReplicaStep, NoMemory>
-        ensures { IfOk result (λ step. step ≡ tallied_out me self.now.memory ballot slot (Some value.now) leader Chosen) }
+        ensures { IfOk result (λ step.
+            step ≡ tallied_out me self.now.memory ballot slot (Some value.now) leader Chosen) }
     {
         let cast = cast(self.alloc, ballot, value)?;
         let value = OwnedValue::of(self.alloc, value)?;
@@ -132,9 +133,9 @@ impl Replica {
         ))
     }
 
-    /// An Accepted comes from a replica, from 0 to 4. The third one chooses: what was outstanding is learned, and told to
-    /// the others. `None` exactly where the slot isn't the next one with room for it, this replica doesn't lead at the
-    /// ballot with that slot outstanding, or that one's was counted.
+    /// An Accepted comes from a replica, from 0 to 4. The third one chooses: what was outstanding is learned, and told
+    /// to the others. `None` exactly where the slot isn't the next one with room for it, this replica doesn't lead at
+    /// the ballot with that slot outstanding, or that one's was counted.
     #[tactic(auto, unfolding(paxos_spec::specs::Replica::on_accepted))]
     pub fn on_accepted(
         &self,

@@ -1,5 +1,6 @@
 -- Chosen, learned, and what is claimed of them.
-use Rattle.std.specs.Prelude.{ℕ, ◌%◌, ◌<◌, ◌≤◌, ◌≡◌, ◌⊎◌, List, [], ◌∷◌, ◌++◌, map, drop, take, length, Contains, slice_get, Option, Some, None, nat_lt, if◌then◌else◌}
+use Rattle.std.specs.Prelude.{ℕ, ◌%◌, ◌<◌, ◌≤◌, ◌≡◌, ◌⊎◌, List, [], ◌∷◌, ◌++◌, map, drop, take, length, Contains}
+use Rattle.std.specs.Prelude.{slice_get, Option, Some, None, nat_lt, if◌then◌else◌}
 use Rattle.wire_core.specs.declared.entry.Entry.{Entry}
 use Rattle.wire_core.specs.declared.entry.Entry.TheVariants as entry
 use Rattle.paxos_spec.specs.declared.mail.Mail.{Mail}
@@ -36,7 +37,10 @@ abbrev pub learns_after : Disk → Entry → List Placed
 learns_after d (entry.Boot version role index boot) = d.learns
 learns_after d (entry.Promise ballot) = d.learns
 learns_after d (entry.Vote ballot value) = d.learns
-learns_after d (entry.Learn ballot value) = if nat_lt (reach d.state) most_slots then record { slot = reach d.state; ballot = ballot; value = value } ∷ d.learns else d.learns
+learns_after d (entry.Learn ballot value) =
+    if nat_lt (reach d.state) most_slots
+    then record { slot = reach d.state; ballot = ballot; value = value } ∷ d.learns
+    else d.learns
 learns_after d (entry.Epoch epoch) = d.learns
 
 -- with one more entry
@@ -99,7 +103,8 @@ IsPrimary w r = (w.memory r).leader.stage ≡ Primary
 
 -- A primary's log exceeds each slot that a lower ballot chose.
 abbrev pub PrimaryKnows : View → Type 0
-PrimaryKnows w = (r s b : ℕ) (v : Value) → r < 5 → IsPrimary w r → b < (w.memory r).leader.ballot → IsChosen w s b v → s < reach (w.disk r).state
+PrimaryKnows w = (r s b : ℕ) (v : Value) → r < 5 → IsPrimary w r
+    → b < (w.memory r).leader.ballot → IsChosen w s b v → s < reach (w.disk r).state
 
 -- from the length on nothing is chosen below the ballot, now or ever
 abbrev pub Seal : View → ℕ → ℕ → Type 0
@@ -111,11 +116,13 @@ PrimarySeal w = (r : ℕ) → r < 5 → IsPrimary w r → Seal w (w.memory r).le
 
 -- A primary's log was learned at ballots up to its own.
 abbrev pub PrimaryLog : View → Type 0
-PrimaryLog w = (r s : ℕ) (x : Cast) → r < 5 → IsPrimary w r → slice_get (w.disk r).state.log s ≡ Some x → x.ballot ≤ (w.memory r).leader.ballot
+PrimaryLog w = (r s : ℕ) (x : Cast) → r < 5 → IsPrimary w r
+    → slice_get (w.disk r).state.log s ≡ Some x → x.ballot ≤ (w.memory r).leader.ballot
 
 -- Two logs have one value at a slot that both have.
 abbrev pub LogsAgree : View → Type 0
-LogsAgree w = (i j s : ℕ) (x y : Cast) → i < 5 → j < 5 → slice_get (w.disk i).state.log s ≡ Some x → slice_get (w.disk j).state.log s ≡ Some y → x.value ≡ y.value
+LogsAgree w = (i j s : ℕ) (x y : Cast) → i < 5 → j < 5
+    → slice_get (w.disk i).state.log s ≡ Some x → slice_get (w.disk j).state.log s ≡ Some y → x.value ≡ y.value
 
 -- what a replica has learned, slot by slot
 abbrev pub values_of : Disk → List Value

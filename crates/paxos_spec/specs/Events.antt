@@ -1,5 +1,6 @@
 -- What an event comes to: the step that a replica takes, where the event counts. What doesn't count is passed over.
-use Rattle.std.specs.Prelude.{ℕ, max, Bool, true, false, not, ◌&&◌, if◌then◌else◌, nat_lt, ◌==◌, Option, Some, None, is_some, slice_get}
+use Rattle.std.specs.Prelude.{ℕ, max, Bool, true, false, not, ◌&&◌, if◌then◌else◌, nat_lt, ◌==◌, Option, Some, None}
+use Rattle.std.specs.Prelude.{is_some, slice_get}
 use Rattle.paxos_spec.specs.declared.mail.Body.{Body}
 use Rattle.paxos_spec.specs.declared.mail.Body.TheVariants.{Prepare, Promise, Accept, Accepted, Refuse, Chosen, Fetch}
 use Rattle.paxos_spec.specs.declared.steps.AcceptStep.{AcceptStep}
@@ -14,7 +15,9 @@ use Rattle.paxos_spec.specs.declared.cast.Cast.{Cast}
 use Rattle.paxos_spec.specs.Votes.{Value, cast}
 use Rattle.paxos_spec.specs.Acceptor.{AcceptorState, new_acceptor, reach, kept, accept_step, chosen_step}
 use Rattle.paxos_spec.specs.Leader.{is_follower, is_primary, stepped_down, campaign, lead_promise, lead_accepted}
-use Rattle.paxos_spec.specs.Replica.{Memory, new_memory, with_goal, Out, reply, quiet, is_next, may_propose, on_prepare, on_promise, on_accept, on_accepted, on_refuse, on_chosen, on_fetch, on_campaign, on_offer}
+use Rattle.paxos_spec.specs.Replica.{Memory, new_memory, with_goal, Out, reply, quiet, is_next, may_propose, on_prepare}
+use Rattle.paxos_spec.specs.Replica.{on_promise, on_accept, on_accepted, on_refuse, on_chosen, on_fetch, on_campaign}
+use Rattle.paxos_spec.specs.Replica.{on_offer}
 
 -- A replica's part in agreement: what its acceptor keeps, and what it has in memory.
 pub record Replica : Type 0 where
@@ -79,7 +82,9 @@ refuse_counts m ballot promised =
     not (is_follower m.leader.stage) && (m.leader.ballot == ballot) && nat_lt ballot promised
 
 abbrev pub step_at_refuse : Replica → ℕ → ℕ → Option Out
-step_at_refuse r ballot promised = if_counts (refuse_counts r.memory ballot promised) (on_refuse r.memory ballot promised)
+step_at_refuse r ballot promised = if_counts
+    (refuse_counts r.memory ballot promised)
+    (on_refuse r.memory ballot promised)
 
 -- A Chosen counts unless its slot has its value, or the log is full.
 abbrev pub chosen_counts : ChosenStep → Bool

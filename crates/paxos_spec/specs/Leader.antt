@@ -1,5 +1,6 @@
 -- What a leader keeps, and what it decides.
-use Rattle.std.specs.Prelude.{ℕ, ◌^◌, max, min, Bool, true, false, not, ◌&&◌, if◌then◌else◌, nat_lt, ◌==◌, List, Option, Some, None}
+use Rattle.std.specs.Prelude.{ℕ, ◌^◌, max, min, Bool, true, false, not, ◌&&◌, if◌then◌else◌, nat_lt, ◌==◌, List, Option}
+use Rattle.std.specs.Prelude.{Some, None}
 use Rattle.paxos_spec.specs.declared.stage.Stage.{Stage}
 use Rattle.paxos_spec.specs.declared.stage.Stage.TheVariants.{Follower, Candidate, Catching, Inheriting, Primary}
 use Rattle.paxos_spec.specs.declared.steps.LeadStep.{LeadStep}
@@ -27,7 +28,10 @@ tallied t from length vote = record {
   tellers = joined t.tellers from;
   longest = max t.longest length;
   source = if nat_lt t.longest length then from else if length == t.longest then min t.source from else t.source;
-  best = if nat_lt t.longest length then vote else if (length == t.longest) && nat_lt t.best.ballot vote.ballot then vote else t.best;
+  best =
+      if nat_lt t.longest length then vote
+      else if (length == t.longest) && nat_lt t.best.ballot vote.ballot then vote
+      else t.best;
 }
 
 pub record LeaderState : Type 0 where
@@ -39,8 +43,20 @@ pub record LeaderState : Type 0 where
   pub out : Option Proposal  -- what is outstanding
   pub counted : List Bool  -- who accepted it
 
+-- of this stage and ballot, and nothing else
+abbrev pub bare : Stage → ℕ → LeaderState
+bare stage ballot = record {
+  stage = stage;
+  ballot = ballot;
+  tally = no_tally;
+  sought = 0;
+  pending = None;
+  out = None;
+  counted = nobody;
+}
+
 abbrev pub new_leader : LeaderState
-new_leader = record { stage = Follower; ballot = 0; tally = no_tally; sought = 0; pending = None; out = None; counted = nobody }
+new_leader = bare Follower 0
 
 abbrev pub is_follower : Stage → Bool
 is_follower Follower = true
@@ -94,11 +110,11 @@ value_out (Some p) = Some p.value
 
 -- To step down: all but the ballot is forgotten.
 abbrev pub stepped_down : LeaderState → LeaderState
-stepped_down l = record { stage = Follower; ballot = l.ballot; tally = no_tally; sought = 0; pending = None; out = None; counted = nobody }
+stepped_down l = bare Follower l.ballot
 
 -- a new candidate
 abbrev pub candidate : ℕ → LeaderState
-candidate ballot = record { stage = Candidate; ballot = ballot; tally = no_tally; sought = 0; pending = None; out = None; counted = nobody }
+candidate ballot = bare Candidate ballot
 
 -- Its next ballot, where that fits.
 abbrev pub campaign : LeaderState → ℕ → ℕ → LeaderState × Option ℕ
@@ -109,29 +125,54 @@ campaign l above index =
 
 -- A value stands outstanding at a slot.
 abbrev pub proposing : Stage → LeaderState → ℕ → Value → LeaderState
-proposing stage l slot value = record { stage = stage; ballot = l.ballot; tally = no_tally; sought = 0; pending = None; out = Some (record { slot = slot; value = value }); counted = nobody }
+proposing stage l slot value = record {
+  stage = stage;
+  ballot = l.ballot;
+  tally = no_tally;
+  sought = 0;
+  pending = None;
+  out = Some (record { slot = slot; value = value });
+  counted = nobody;
+}
 
 -- nothing is outstanding, and it may propose
 abbrev pub primary : LeaderState → LeaderState
-primary l = record { stage = Primary; ballot = l.ballot; tally = no_tally; sought = 0; pending = None; out = None; counted = nobody }
+primary l = bare Primary l.ballot
 
 -- The arrival at a length: a pending value is inherited there, else the replica is primary.
 abbrev pub arrive : LeaderState → ℕ → Option Value → LeaderState × LeadStep
 arrive l at None = (primary l, lead.Ready)
 arrive l at (Some value) = (proposing Inheriting l at value, lead.Inherit)
 
+-- It fetches up to a length, where this value pends.
+abbrev pub catching : LeaderState → ℕ → Option Value → LeaderState
+catching l sought pending = record {
+  stage = Catching;
+  ballot = l.ballot;
+  tally = no_tally;
+  sought = sought;
+  pending = pending;
+  out = None;
+  counted = nobody;
+}
+
 -- The third promise: what is longer is fetched first.
 abbrev pub third_promise : LeaderState → Tally → ℕ → LeaderState × LeadStep
 third_promise l t own =
     if nat_lt own t.longest
-    then (
-      record { stage = Catching; ballot = l.ballot; tally = no_tally; sought = t.longest; pending = value_of t.best; out = None; counted = nobody },
-      lead.Catch t.source t.longest,
-    )
+    then (catching l t.longest (value_of t.best), lead.Catch t.source t.longest)
     else arrive l own (if own == t.longest then value_of t.best else None)
 
 abbrev pub with_tally : LeaderState → Tally → LeaderState
-with_tally l t = record { stage = l.stage; ballot = l.ballot; tally = t; sought = l.sought; pending = l.pending; out = l.out; counted = l.counted }
+with_tally l t = record {
+  stage = l.stage;
+  ballot = l.ballot;
+  tally = t;
+  sought = l.sought;
+  pending = l.pending;
+  out = l.out;
+  counted = l.counted;
+}
 
 -- A promise: it is recorded where it is new and of this candidacy. `own` is the replica's own length.
 abbrev pub lead_promise : LeaderState → ℕ → ℕ → ℕ → Cast → ℕ → LeaderState × LeadStep
@@ -151,7 +192,15 @@ abbrev pub propose : LeaderState → ℕ → Value → LeaderState
 propose l slot value = proposing Primary l slot value
 
 abbrev pub with_counted : LeaderState → List Bool → LeaderState
-with_counted l flags = record { stage = l.stage; ballot = l.ballot; tally = l.tally; sought = l.sought; pending = l.pending; out = l.out; counted = flags }
+with_counted l flags = record {
+  stage = l.stage;
+  ballot = l.ballot;
+  tally = l.tally;
+  sought = l.sought;
+  pending = l.pending;
+  out = l.out;
+  counted = flags;
+}
 
 -- An Accepted: it is counted where it is new and of what is outstanding.
 abbrev pub lead_accepted_of : Option Proposal → LeaderState → ℕ → ℕ → ℕ → LeaderState × Counted
@@ -165,12 +214,3 @@ lead_accepted_of (Some p) l from ballot slot =
 
 abbrev pub lead_accepted : LeaderState → ℕ → ℕ → ℕ → LeaderState × Counted
 lead_accepted l from ballot slot = lead_accepted_of l.out l from ballot slot
-
-abbrev pub is_third : Counted → Bool
-is_third counted.Late = false
-is_third counted.More = false
-is_third counted.Chosen = true
-
--- whether this Accepted is the third, which chooses
-abbrev pub would_choose : LeaderState → ℕ → ℕ → ℕ → Bool
-would_choose l from ballot slot = is_third (lead_accepted l from ballot slot).1

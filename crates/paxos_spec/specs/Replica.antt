@@ -1,5 +1,6 @@
 -- What a replica does with each message, when it runs for election, and when a value is offered to it.
-use Rattle.std.specs.Prelude.{ℕ, ◌+◌, max, Bool, not, ◌&&◌, ◌||◌, if◌then◌else◌, nat_lt, ◌==◌, List, [], ◌∷◌, map, filter, Option, Some, None, slice_get}
+use Rattle.std.specs.Prelude.{ℕ, ◌+◌, max, Bool, not, ◌&&◌, ◌||◌, if◌then◌else◌, nat_lt, ◌==◌, List, [], ◌∷◌, map}
+use Rattle.std.specs.Prelude.{filter, Option, Some, None, slice_get}
 use Rattle.wire_core.specs.declared.entry.Entry.{Entry}
 use Rattle.wire_core.specs.declared.entry.Entry.TheVariants as entry
 use Rattle.paxos_spec.specs.declared.mail.Body.{Body}
@@ -19,7 +20,9 @@ use Rattle.paxos_spec.specs.declared.cast.Cast.{Cast}
 use Rattle.paxos_spec.specs.Votes.{Value, cast, value_of}
 use Rattle.paxos_spec.specs.Five.{five}
 use Rattle.paxos_spec.specs.Acceptor.{AcceptorState, reach, most_slots, prepare_step, accept_step, chosen_step}
-use Rattle.paxos_spec.specs.Leader.{LeaderState, new_leader, is_follower, is_catching, is_primary, is_leading, is_idle, value_out, stepped_down, campaign, lead_promise, lead_reached, propose, lead_accepted}
+use Rattle.paxos_spec.specs.Leader.{LeaderState, new_leader, is_follower, is_catching, is_primary, is_leading, is_idle}
+use Rattle.paxos_spec.specs.Leader.{value_out, stepped_down, campaign, lead_promise, lead_reached, propose}
+use Rattle.paxos_spec.specs.Leader.{lead_accepted}
 
 -- What a replica keeps in memory alone.
 pub record Memory : Type 0 where
@@ -41,7 +44,8 @@ with_goal m length replica = record { leader = m.leader; seen = m.seen; goal = l
 abbrev pub down : Memory → Memory
 down m = with_leader m (stepped_down m.leader)
 
--- What one step of a replica does: at most one entry, which is durable before a message leaves; its memory; its messages.
+-- What one step of a replica does: at most one entry, which is durable before a message leaves; its memory; its
+-- messages.
 pub record Out : Type 0 where
   pub entry : Option Entry
   pub memory : Memory
@@ -71,7 +75,11 @@ promise_of a ballot = Promise ballot (reach a) a.vote.ballot (value_of a.vote)
 abbrev pub prepared : ℕ → AcceptorState → Memory → ℕ → ℕ → PrepareStep → Out
 prepared me a m from ballot (prepare.Refuse promised) = reply m me (Refuse ballot promised) from
 prepared me a m from ballot prepare.Again = reply m me (promise_of a ballot) from
-prepared me a m from ballot prepare.Promise = record { entry = Some (entry.Promise ballot); memory = down m; sends = mail me (promise_of a ballot) from ∷ [] }
+prepared me a m from ballot prepare.Promise = record {
+  entry = Some (entry.Promise ballot);
+  memory = down m;
+  sends = mail me (promise_of a ballot) from ∷ [];
+}
 
 unfoldable pub on_prepare : ℕ → AcceptorState → Memory → ℕ → ℕ → Out
 on_prepare me a m from ballot = prepared me a m from ballot (prepare_step a ballot)
@@ -97,7 +105,8 @@ led_by me at m x = led me at m x.0 x.1
 
 -- Promise.
 unfoldable pub on_promise : ℕ → AcceptorState → Memory → ℕ → ℕ → ℕ → Cast → Out
-on_promise me a m from ballot length vote = led_by me (reach a) m (lead_promise m.leader from ballot length vote (reach a))
+on_promise me a m from ballot length vote =
+    led_by me (reach a) m (lead_promise m.leader from ballot length vote (reach a))
 
 -- Accept.
 abbrev pub accepted : ℕ → Memory → ℕ → ℕ → ℕ → Value → AcceptStep → Out
@@ -166,7 +175,8 @@ once_learned e m x = record { entry = Some e; memory = with_leader m x.0; sends 
 abbrev pub learned : ℕ → AcceptorState → Memory → ℕ → ℕ → ℕ → Value → ChosenStep → Out
 learned me a m from slot ballot value chosen.Late = quiet m
 learned me a m from slot ballot value (chosen.Behind length) = reply (with_goal m slot from) me (Fetch length) from
-learned me a m from slot ballot value chosen.Learned = once_learned (entry.Learn ballot value) m (onwards me (max a.promise ballot) (slot + 1) m)
+learned me a m from slot ballot value chosen.Learned =
+    once_learned (entry.Learn ballot value) m (onwards me (max a.promise ballot) (slot + 1) m)
 
 unfoldable pub on_chosen : ℕ → AcceptorState → Memory → ℕ → ℕ → ℕ → Value → Out
 on_chosen me a m from slot ballot value = learned me a m from slot ballot value (chosen_step a slot)
@@ -192,7 +202,11 @@ on_message me a m from (Fetch slot) = on_fetch me a m from slot
 -- A replica that isn't primary runs for election, above all that it promised or heard of.
 abbrev pub campaigned : ℕ → Memory → LeaderState → Option ℕ → Out
 campaigned me m l None = quiet m
-campaigned me m l (Some ballot) = record { entry = Some (entry.Promise ballot); memory = with_leader m l; sends = to_all me (Prepare ballot) }
+campaigned me m l (Some ballot) = record {
+  entry = Some (entry.Promise ballot);
+  memory = with_leader m l;
+  sends = to_all me (Prepare ballot);
+}
 
 abbrev pub campaigned_by : ℕ → Memory → LeaderState × Option ℕ → Out
 campaigned_by me m x = campaigned me m x.0 x.1
