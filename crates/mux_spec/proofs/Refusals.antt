@@ -24,7 +24,7 @@ use Rattle.mux_spec.specs.declared.verdict.RedirectAsk.{RedirectAsk}
 use Rattle.mux_spec.specs.declared.gate.Admit.{Admit}
 use Rattle.mux_spec.specs.declared.gate.Admit.TheVariants.{WrongBoot, OldEpoch, Raise, Yes}
 use Rattle.mux_spec.specs.declared.row.Order.{Order}
-use Rattle.mux_spec.specs.Commands.{if_admitted, raised, refused, programs, unprograms, when_programmed, on_program, on_unprogram}
+use Rattle.mux_spec.specs.Commands.{if_admitted, order, raised, refused, programs, unprograms, when_programmed, on_program, on_unprogram}
 use Rattle.mux_spec.specs.Flows.{Flows}
 use Rattle.mux_spec.specs.Footprints.{CommandDrops, DropsOrNot, IsAdmitted, Leaves, Raises, Taken}
 use Rattle.mux_spec.specs.Gates.{admit}
@@ -148,7 +148,10 @@ no_role : (m : Mux) → CommandDrops m (drop_turn m drop.WrongRole)
 no_role m = Leaves drop.WrongRole refl refl refl
 
 pub command_drops : (c : ConfigParts) (m : Mux) (from : ℕ) (message : Message) → CommandDrops m (from_replica c m from message)
-command_drops c m from message = grind (arith, program_drops, unprogram_drops, no_role)
+command_drops c m from (message.Program epoch boot n vip start machine) =
+    program_drops c m (order from epoch boot n vip start) machine
+command_drops c m from (message.Unprogram epoch boot n vip start) = unprogram_drops c m (order from epoch boot n vip start)
+command_drops c m from _ = no_role m
 
 -- ---- redirects
 
