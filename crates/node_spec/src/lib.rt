@@ -7,7 +7,6 @@
 //!
 //! | subject | file of `specs/` |
 //! |---|---|
-//! | when two keys or ranges are the same | `Same` |
 //! | what is sent, and to whom | `Sends` |
 //! | what one input makes a node do | `Turns` |
 //! | the same in bytes, and the code's step so far | `Steps` |
@@ -16,12 +15,19 @@
 //! | connections that may do without a mux | `Fastpath` |
 //! | a node's boot and epoch by its entries | `Boots` |
 //!
+//! What is sent is heard as it was said: [`what_is_sent_is_heard`].
+//!
 //! `proofs/Turning` has the lemmas for handlers: a step after one turn and then another is the step after both. The bundle
 //! `proofs/OnLiterals` opens the words of this crate where a row is computed.
 #![tactic(auto)]
 
 mod accept;
+mod laws;
 mod telling;
 
 pub use accept::Accept;
+pub use laws::what_is_sent_is_heard;
 pub use telling::{entry_bytes, say, say_each};
+
+#[cfg(test)]
+mod tests;
