@@ -1,0 +1,16 @@
+pub mod Hex
+pub mod Configs
+pub mod Steps
+pub mod Run
+pub mod Ballots
+pub mod Muxes
+pub mod Asks
+pub mod Redirects
+pub mod Replicas
+pub mod Primaries
+pub mod ReplicaRun
+pub mod ReplicaLeading
+pub mod ReplicaVoting
+pub mod ReplicaMuxes
+pub mod ReplicaAgents
+pub mod ReplicaDatagrams
