@@ -29,7 +29,8 @@ node_admitted (Replica i) m e = rw e refl
 node_admitted (Mux i) m e = rw e refl
 node_admitted (Agent i) m e = rw e refl
 
-pub node_heard : (c : ConfigParts) (n : NodeId) (from : Socket) (m : Message) → KnowsOwners c → socket_of c n ≡ Some from
+pub node_heard : (c : ConfigParts) (n : NodeId) (from : Socket) (m : Message) → KnowsOwners c
+    → socket_of c n ≡ Some from
     → IsMessage m → is_redirect m ≡ false → heard c from (datagram (Says m)) ≡ Told n m
 node_heard c n from m knows at is e =
     message_heard c from m is ∙ ap (λ (who : Who). admitted who m) (knows.nodes n from at) ∙ node_admitted n m e

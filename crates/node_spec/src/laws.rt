@@ -9,8 +9,8 @@ ghost use Rattle.vip_config.specs.declared.parts.ConfigParts.{ConfigParts};
 ghost use Rattle.wire_core.specs.declared.address.Socket.{Socket};
 ghost use Rattle.wire_core.specs.declared.node.NodeId.{NodeId};
 
-/// What is sent is heard: a message whose fields are allowed as that message, a packet as that packet, each of the one whose
-/// socket it comes from. So what a node says to a node arrives as what it said, of the node that said it.
+/// What is sent is heard: a message whose fields are allowed as that message, a packet as that packet, each of the one
+/// whose socket it comes from. So what a node says to a node arrives as what it said, of the node that said it.
 pub fn what_is_sent_is_heard()
     ensures message { (c : ConfigParts) (from : Socket) (m : Message) → IsMessage m
         → heard c from (datagram (Says m)) ≡ admitted (who_of c from) m }

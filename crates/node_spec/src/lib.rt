@@ -1,9 +1,10 @@
-//! What one input makes a node do: the words that the tables of the three roles share, and in which code is tied to them.
+//! What one input makes a node do: the words that the tables of the three roles share, and in which code is tied to
+//! them.
 //!
 //! A table is a function from the configuration, a role's lists and an input to a **turn**: the new lists, at most one
-//! entry, and the acts, the notes and the datagrams in order. Each kind of input has a row of its own, and a row is made of
-//! the few turns of `Turns`. Code doesn't make turns: each handler adds to a `Step`, which has the entry and the datagrams in
-//! bytes, and its contract says `turned keep cfg step (row cfg lists fields)`.
+//! entry, and the acts, the notes and the datagrams in order. Each kind of input has a row of its own, and a row is
+//! made of the few turns of `Turns`. Code doesn't make turns: each handler adds to a `Step`, which has the entry and
+//! the datagrams in bytes, and its contract says `turned keep cfg step (row cfg lists fields)`.
 //!
 //! | subject | file of `specs/` |
 //! |---|---|
@@ -17,8 +18,8 @@
 //!
 //! What is sent is heard as it was said: [`what_is_sent_is_heard`].
 //!
-//! `proofs/Turning` has the lemmas for handlers: a step after one turn and then another is the step after both. The bundle
-//! `proofs/OnLiterals` opens the words of this crate where a row is computed.
+//! `proofs/Turning` has the lemmas for handlers: a step after one turn and then another is the step after both. The
+//! bundle `proofs/OnLiterals` opens the words of this crate where a row is computed.
 #![tactic(auto)]
 
 mod accept;

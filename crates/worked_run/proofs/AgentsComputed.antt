@@ -3,7 +3,7 @@ use Rattle.std.proofs.Common.{refl}
 use Rattle.node_spec.proofs.OnLiterals.{node_on_literals}
 use Rattle.manager_spec.proofs.OnLiterals.{manager_on_literals}
 use Rattle.worked_run.proofs.OnLiterals.{below_on_literals}
-use Rattle.worked_run.specs.ReplicaAgents.{OnlyPrimary, Asks, AsksAgain, Queues, Denies, Returns, Ups}
+use Rattle.worked_run.specs.ReplicaAgents.{OnlyPrimary, Asks, AsksAgain, Queues, Denies, Returns, Ups, ProposesAfter}
 
 pub only_primary : OnlyPrimary
 unfolding node_on_literals manager_on_literals below_on_literals
@@ -45,6 +45,9 @@ queues = record {
   again = refl;
   full = refl;
   full_again = refl;
+  other_agent = refl;
+  other_boot = refl;
+  other_ask = refl;
   not_full = refl;
 }
 
@@ -68,6 +71,7 @@ returns = record {
   taken = refl;
   again = refl;
   learned = refl;
+  other_waits = refl;
 }
 
 pub ups : Ups
@@ -78,4 +82,13 @@ ups = record {
   later = refl;
   again = refl;
   learned = refl;
+}
+
+pub proposes_after : ProposesAfter
+unfolding node_on_literals manager_on_literals below_on_literals
+proposes_after = record {
+  grant = refl;
+  denied = refl;
+  returned = refl;
+  known = refl;
 }

@@ -3,7 +3,7 @@ use Rattle.std.proofs.Common.{refl}
 use Rattle.node_spec.proofs.OnLiterals.{node_on_literals}
 use Rattle.manager_spec.proofs.OnLiterals.{manager_on_literals}
 use Rattle.worked_run.proofs.OnLiterals.{below_on_literals}
-use Rattle.worked_run.specs.ReplicaMuxes.{Hellos, Acknowledges, GrantsDue, FreedDue, Pushes, PushesSome, Proposes}
+use Rattle.worked_run.specs.ReplicaMuxes.{Hellos, Acknowledges, GrantsDue, AcknowledgesTwice, FreedDue, Pushes, PushesSome, Proposes, Orders}
 
 pub hellos : Hellos
 unfolding node_on_literals manager_on_literals below_on_literals
@@ -18,6 +18,8 @@ hellos = record {
   refusal_follows = refl;
   refusal_next = refl;
   refusal_above = refl;
+  greatest = refl;
+  refusal_keeps_boot = refl;
   refusal_of_boot = refl;
 }
 
@@ -44,12 +46,20 @@ grants_due = record {
   unheard = refl;
 }
 
+pub acknowledges_twice : AcknowledgesTwice
+unfolding node_on_literals manager_on_literals below_on_literals
+acknowledges_twice = record {
+  later_counts = refl;
+}
+
 pub freed_due : FreedDue
 unfolding node_on_literals manager_on_literals below_on_literals
 freed_due = record {
   one_of_two = refl;
   both = refl;
   any_boot = refl;
+  learned = refl;
+  forgotten = refl;
   programmed_is_none = refl;
 }
 
@@ -78,4 +88,13 @@ proposes = record {
   queue = refl;
   some = refl;
   left = refl;
+  after_refusal = refl;
+}
+
+pub orders : Orders
+unfolding node_on_literals manager_on_literals below_on_literals
+orders = record {
+  silent = refl;
+  ended = refl;
+  next = refl;
 }

@@ -17,9 +17,9 @@ use Rattle.paxos_spec.specs.Replica.{on_offer}
 
 -- what an answer unfolds
 unfoldable pub below_on_literals : ⊤
-unfolding boot_at entry_at number_bytes count_at reserve_at up_at lease_at mux_boot_at mux_boots_at granted_at command_at
-    commands_at value_at same_value mux_boots address_at start_at reason_at side_at vote_value_at number_at two_numbers_at
-    three_numbers_at valued_at promise_at ask_at grant_at denied_at program_at unprogram_at redirect_ask_at redirect_at
-    message_at first_start least_free raise_known decide reserve grant release free up story apply state_of on_prepare
-    on_promise on_accept on_accepted on_refuse on_chosen on_campaign on_offer
+unfolding boot_at entry_at number_bytes count_at reserve_at up_at lease_at mux_boot_at mux_boots_at granted_at
+    command_at commands_at value_at same_value mux_boots address_at start_at reason_at side_at vote_value_at
+    number_at two_numbers_at three_numbers_at valued_at promise_at ask_at grant_at denied_at program_at unprogram_at
+    redirect_ask_at redirect_at message_at first_start least_free raise_known decide reserve grant release free up
+    story apply state_of on_prepare on_promise on_accept on_accepted on_refuse on_chosen on_campaign on_offer
 below_on_literals = tt

@@ -1,5 +1,5 @@
 -- What agents ask and are told, and what is proposed for them.
-use Rattle.std.specs.Prelude.{ℕ, List, codes}
+use Rattle.std.specs.Prelude.{ℕ, List, ◌++◌, codes}
 use Rattle.worked_run.specs.Hex.{hex}
 
 -- the machine asks again; so does the other machine
@@ -105,3 +105,19 @@ learned_ask_2 = hex (codes "0400000000000000050101000000000000000000010a01000400
 
 abbrev pub learned_other : List ℕ
 learned_other = hex (codes "0400000000000000050101000000000000000000010a0100050000000000000001")
+
+-- what is proposed next: at slot 1, and at slot 2
+abbrev pub accept_up_2 : List ℕ
+accept_up_2 = hex (codes "01010300000000000000050000000000000001010500000000000000000002")
+
+abbrev pub accept_up_2_later : List ℕ
+accept_up_2_later = hex (codes "01010300000000000000050000000000000002010500000000000000000002")
+
+-- a lease that is asked for and given back in one value
+abbrev pub learned_both : List ℕ
+learned_both = hex (codes "0400000000000000050201000000000000000000010a0100040000000000000001030000000000000001")
+
+abbrev pub chosen_both : List ℕ
+chosen_both = hex
+    (codes "010106000000000000000000000000000000050201000000000000000000010a01000400000000000000010300000000"
+    ++ codes "00000001")

@@ -22,6 +22,10 @@ mux_refuse_7 = hex (codes "01011400000000000000050000000000000001000000000000000
 abbrev pub mux_refuse_12 : List ℕ
 mux_refuse_12 = hex (codes "01011400000000000000050000000000000001000000000000000c")
 
+-- a refusal that tells of no epoch above
+abbrev pub mux_refuse_0 : List ℕ
+mux_refuse_0 = hex (codes "010114000000000000000500000000000000010000000000000000")
+
 -- row 1 is programmed in boot 2; at epoch 4; row 2 is programmed
 abbrev pub programmed_2 : List ℕ
 programmed_2 = hex (codes "010111000000000000000500000000000000020000000000000001")
@@ -57,6 +61,12 @@ accept_granted_1 = hex (codes "0101030000000000000005000000000000000101020000000
 abbrev pub accept_granted_0_in_2 : List ℕ
 accept_granted_0_in_2 = hex (codes "01010300000000000000050000000000000001010200000000000000010100000000000000000002")
 
+-- the same with mux 0 in boot 2
+abbrev pub accept_granted_both_in_2 : List ℕ
+accept_granted_both_in_2 = hex
+    (codes "010103000000000000000500000000000000010102000000000000000102000000000000000000020001000000000000"
+    ++ codes "0001")
+
 abbrev pub accept_granted_both : List ℕ
 accept_granted_both = hex
     (codes "010103000000000000000500000000000000010102000000000000000102000000000000000000010001000000000000"
@@ -65,6 +75,15 @@ accept_granted_both = hex
 -- row 1 is freed, at slot 3
 abbrev pub accept_freed : List ℕ
 accept_freed = hex (codes "0101030000000000000005000000000000000301040000000000000001")
+
+abbrev pub accepted_freed : List ℕ
+accepted_freed = hex (codes "01010400000000000000050000000000000003")
+
+abbrev pub chosen_freed : List ℕ
+chosen_freed = hex (codes "0101060000000000000003000000000000000501040000000000000001")
+
+abbrev pub learned_freed : List ℕ
+learned_freed = hex (codes "04000000000000000501040000000000000001")
 
 -- what is due, in its order
 abbrev pub accept_due : List ℕ

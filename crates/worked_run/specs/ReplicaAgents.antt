@@ -35,8 +35,8 @@ pub record OnlyPrimary : Type 0 where
 abbrev pub no_snat : ConfigParts
 no_snat = record run_config { vips = leasing 65535 [] ∷ [] }
 
--- Which Ask is taken: one of the machine's own agent, of a machine that leaves from a VIP, of a boot that isn't below the
--- known one, and later than the machine's last.
+-- Which Ask is taken: one of the machine's own agent, of a machine that leaves from a VIP, of a boot that isn't below
+-- the known one, and later than the machine's last.
 pub record Asks : Type 0 where
   pub other_agent : step_of two_each (hears two_each (primary two_each []) other_agent_at run.ask) ≡ dropped NotMine
   pub other_machine : step_of two_each (hears two_each (primary two_each []) agent_at asks.ask_other) ≡ dropped NotMine
@@ -73,6 +73,9 @@ pub record Queues : Type 0 where
   pub again : of (of_agent asks.ask_2 (of_agent asks.ask_2 hears_ask.state).state) ≡ dropped Waiting
   pub full : of (of_agent asks.up_2 (queued (map Release (range_with_len 1 4096)))) ≡ dropped QueueFull
   pub full_again : of (of_agent asks.up_2 (queued (Up 0 2 ∷ map Release (range_with_len 1 4095)))) ≡ dropped Waiting
+  pub other_agent : (of_agent asks.up_2 (queued (Up 1 2 ∷ []))).notes ≡ []
+  pub other_boot : (of_agent asks.up_2 (queued (Up 0 3 ∷ []))).notes ≡ []
+  pub other_ask : (of_agent run.ask (queued (Reserve 0 2 machine 1 ∷ []))).notes ≡ []
   pub not_full : (of_agent asks.up_2 (queued (map Release (range_with_len 1 4095)))).notes ≡ []
 
 -- Denied: no range was free at the place of the request, or the machine had as many rows as it may.
@@ -110,6 +113,7 @@ pub record Returns : Type 0 where
       ≡ keeps asks.learned_release (does (act.Free 1 ∷ [])
       (sends (to_each four_others asks.chosen_release
       ++ sent agent_at asks.returned_1 ∷ sent mux_at muxes.unprogram ∷ [])))
+  pub other_waits : (of_agent asks.return_1 (record leased { queue = Release 2 ∷ [] })).notes ≡ []
 
 -- a primary that knows the agent in boot 2, with a lease of that boot
 abbrev pub known_in_2 : Manager
@@ -125,3 +129,13 @@ pub record Ups : Type 0 where
   pub learned : of (agreed run_config (of_agent asks.up_3 known_in_2).state asks.accepted_2)
       ≡ keeps asks.learned_up (does (act.Free 17 ∷ [])
       (sends (to_each four_others asks.chosen_up ++ sent agent_at asks.known_3 ∷ [])))
+
+-- After an answer comes the proposal of what is queued.
+pub record ProposesAfter : Type 0 where
+  pub grant : of (of_agent run.ask (record grants.state { queue = up 0 2 }))
+      ≡ sends (sent agent_at run.grant ∷ to_each all_five asks.accept_up_2_later)
+  pub denied : (hears one_row
+      (record (primary one_row (reserve_1 ∷ granted_1 ∷ (Reserve 0 1 machine 2 ∷ []) ∷ [])) { queue = up 0 2 })
+      agent_at asks.ask_2).state.queue ≡ []
+  pub returned : (of_agent asks.return_16 (record (with_log (reserve_1 ∷ [])) { queue = up 0 2 })).state.queue ≡ []
+  pub known : (of_agent asks.up_2 (record known_in_2 { queue = release_1 })).state.queue ≡ []

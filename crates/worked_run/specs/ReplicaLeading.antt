@@ -21,8 +21,8 @@ from i bytes r = hears run_config r (replica_at i) bytes
 abbrev pub at_time : ℕ → Manager → Turn Manager
 at_time now r = ticks run_config r now
 
--- After a silence of `lead_silent`, and not a millisecond sooner, a replica runs for election. It counts from when it last
--- heard of a leader: a candidacy of its own, a new promise, a new vote, a Lead or a value learned.
+-- After a silence of `lead_silent`, and not a millisecond sooner, a replica runs for election. It counts from when it
+-- last heard of a leader: a candidacy of its own, a new promise, a new vote, a Lead or a value learned.
 pub record Silence : Type 0 where
   pub early : of (at_time 999 (opened 0)) ≡ no_step
   pub candidate_waits : of (at_time 1999 campaigns.state) ≡ no_step
@@ -43,8 +43,8 @@ pub record Silence : Type 0 where
   pub mux_is_none : (of (at_time 1000 (hears run_config (at_time 900 (opened 0)).state mux_at run.hello).state)).entry
       ≡ Some run.promised
 
--- Prepare: one below the promise is refused, the promise itself is promised again without an entry, one above it makes a
--- primary step down, with its queue and what was outstanding.
+-- Prepare: one below the promise is refused, the promise itself is promised again without an entry, one above it makes
+-- a primary step down, with its queue and what was outstanding.
 pub record Prepares : Type 0 where
   pub below : of (from 4 ballots.prepare_4 (hears_prepare 1).state)
       ≡ sends (sent (replica_at 4) ballots.refuse_4 ∷ [])
@@ -92,8 +92,8 @@ accepts_6 r i = from i ballots.accepted_6 r
 abbrev pub inherited : Turn Manager
 inherited = accepts_6 (accepts_6 (accepts_6 inherits.state 0).state 2).state 3
 
--- The vote of the greatest ballot is proposed again. The third that accepts it makes the replica primary, with the value in
--- its log, once.
+-- The vote of the greatest ballot is proposed again. The third that accepts it makes the replica primary, with the
+-- value in its log, once.
 pub record Inherits : Type 0 where
   pub proposes : of inherits ≡ sends (to_each all_five ballots.accept_6)
   pub learns : of inherited

@@ -1,7 +1,7 @@
 -- Rows of the managers on muxes: who is known, what is acknowledged, what is pushed, and what is due by it.
 use Rattle.std.specs.Prelude.{ℕ, ◌+◌, List, [], ◌∷◌, ◌++◌, map, length, Some, ◌≡◌}
 use Rattle.std.specs.List.{range_with_len}
-use Rattle.wire_core.specs.Commands.{LogCommand, Reserve, Up}
+use Rattle.wire_core.specs.Commands.{LogCommand, Reserve, Release, Up}
 use Rattle.wire_core.specs.Steps.{no_step}
 use Rattle.wire_core.specs.declared.cause.DropCause.TheVariants.{Late}
 use Rattle.vip_config.specs.declared.parts.ConfigParts.{ConfigParts}
@@ -12,13 +12,15 @@ use Rattle.paxos_spec.specs.Leader.{value_out}
 use Rattle.manager_spec.specs.Manager.{Manager}
 use Rattle.manager_spec.specs.Known.{no_marks}
 use Rattle.manager_spec.specs.Muxes.{programmed_by, unprogrammed_by}
-use Rattle.worked_run.specs.Configs.{run_config, two_each, machine, mux_at, other_mux_at}
+use Rattle.worked_run.specs.Configs.{run_config, two_each, machine, mux_at, other_mux_at, agent_at}
 use Rattle.worked_run.specs.Run as run
 use Rattle.worked_run.specs.Ballots as ballots
 use Rattle.worked_run.specs.Muxes as muxes
-use Rattle.worked_run.specs.Steps.{sent, all_five, four_others, to_each, sends, dropped}
-use Rattle.worked_run.specs.Primaries.{primary, stage_of, reserve_1, granted_1, release_1, up}
-use Rattle.worked_run.specs.Replicas.{of, hears, ticks, opened, elected, hears_ask, reserves, grants}
+use Rattle.worked_run.specs.Asks as asks
+use Rattle.wire_core.specs.declared.act.Act.TheVariants as act
+use Rattle.worked_run.specs.Steps.{sent, all_five, four_others, to_each, sends, keeps, does, dropped}
+use Rattle.worked_run.specs.Primaries.{primary, agreed, stage_of, reserve_1, granted_1, release_1, up, reserve_act}
+use Rattle.worked_run.specs.Replicas.{of, hears, ticks, opened, elected, hears_ask, two_accepted, accepted_by, reserves, grants}
 use Rattle.worked_run.specs.ReplicaLeading.{at_time}
 
 -- what mux 0 says, under the run's configuration
@@ -32,8 +34,8 @@ of_first bytes r = hears two_each r mux_at bytes
 abbrev pub of_second : List ℕ → Manager → Turn Manager
 of_second bytes r = hears two_each r other_mux_at bytes
 
--- MuxHello and MuxRefuse: an earlier boot is Late in a Hello alone. An epoch above the own ballot ends a lead, and the next
--- candidacy is above it.
+-- MuxHello and MuxRefuse: an earlier boot is Late in a Hello alone. An epoch above the own ballot ends a lead, and the
+-- next candidacy is above it.
 pub record Hellos : Type 0 where
   pub earlier : of (of_mux run.hello (of_mux muxes.hello_2 elected).state) ≡ dropped Late
   pub same : of (of_mux run.hello elected) ≡ no_step
@@ -48,6 +50,10 @@ pub record Hellos : Type 0 where
       ≡ to_each all_five ballots.prepare_10
   pub refusal_above : (of (at_time 2000 (of_mux muxes.mux_refuse_12 elected).state)).sends
       ≡ to_each all_five ballots.prepare_15
+  pub greatest : (of (at_time 1000 (of_mux muxes.hello_7 (of_mux muxes.hello_12 (opened 0)).state).state)).sends
+      ≡ to_each all_five ballots.prepare_15
+  pub refusal_keeps_boot :
+      of (of_mux run.hello (of_mux muxes.mux_refuse_0 (of_mux muxes.hello_2 elected).state).state) ≡ dropped Late
   pub refusal_of_boot : of (of_mux muxes.mux_refuse_7 (of_mux muxes.hello_2 elected).state) ≡ no_step
 
 -- Acknowledgements: Late at a follower, of another epoch, of no row. One of an earlier boot than the known one grants
@@ -86,6 +92,15 @@ pub record GrantsDue : Type 0 where
   pub unheard : step_of two_each (of_first run.programmed (primary two_each (reserve_1 ∷ [])))
       ≡ sends (to_each all_five muxes.accept_granted_0)
 
+-- mux 0 acknowledged in boot 2, and then its acknowledgement of boot 1 comes late
+abbrev pub first_twice : Manager
+first_twice = (of_first run.programmed (of_first muxes.programmed_2 both_near).state).state
+
+-- Of two acknowledgements of a mux the later boot's counts, whichever came first.
+pub record AcknowledgesTwice : Type 0 where
+  pub later_counts : step_of two_each (of_second run.programmed first_twice)
+      ≡ sends (to_each all_five muxes.accept_granted_both_in_2)
+
 -- a primary of two muxes with a Freeing row
 abbrev pub freeing : Manager
 freeing = primary two_each (reserve_1 ∷ granted_1 ∷ release_1 ∷ [])
@@ -98,6 +113,12 @@ pub record FreedDue : Type 0 where
   pub any_boot : step_of two_each
       (of_second muxes.unprogrammed (of_first muxes.hello_2 (of_first muxes.unprogrammed freeing).state).state)
       ≡ sends (to_each all_five muxes.accept_freed)
+  pub learned : step_of two_each (agreed two_each
+      (of_second muxes.unprogrammed (of_first muxes.unprogrammed freeing).state).state muxes.accepted_freed)
+      ≡ keeps muxes.learned_freed (does (act.Freed 1 ∷ []) (sends (to_each four_others muxes.chosen_freed)))
+  pub forgotten : (agreed two_each
+      (of_second muxes.unprogrammed (of_first muxes.unprogrammed freeing).state).state muxes.accepted_freed).state.acks
+      ≡ []
   pub programmed_is_none :
       step_of two_each (of_second run.programmed (of_first muxes.unprogrammed freeing).state) ≡ no_step
 
@@ -153,3 +174,19 @@ pub record Proposes : Type 0 where
   pub some : value_out (of_mux run.hello many_queued).state.memory.leader.out
       ≡ Some (map (λ i. Up i 2) (range_with_len 0 16))
   pub left : (of_mux run.hello many_queued).state.queue ≡ up 16 2
+  pub after_refusal : (of_mux muxes.mux_refuse_0 (record elected { queue = up 0 2 })).state.queue ≡ []
+
+-- A value that is learned is told to each mux with a known boot, silent or not; a lease that ends in the value that
+-- begins it is told to none, but that it ended. The next value is proposed in the same turn.
+pub record Orders : Type 0 where
+  pub silent : of (accepted_by (at_time 7000 two_accepted).state 2)
+      ≡ keeps run.learned_reserve (does (reserve_act 1 1024 machine ∷ [])
+        (sends (to_each four_others run.chosen_reserve ++ sent mux_at run.program ∷ [])))
+  pub ended : of (agreed run_config
+      (of_mux run.hello (record elected { queue = Reserve 0 1 machine 1 ∷ Release 1 ∷ [] })).state run.accepted_reserve)
+      ≡ keeps asks.learned_both (does (reserve_act 1 1024 machine ∷ act.Free 1 ∷ [])
+        (sends (to_each four_others asks.chosen_both
+          ++ sent agent_at asks.returned_1 ∷ sent mux_at muxes.unprogram ∷ [])))
+  pub next : (of
+      (agreed run_config (hears run_config hears_ask.state agent_at asks.up_2).state run.accepted_reserve)).sends
+      ≡ to_each four_others run.chosen_reserve ++ sent mux_at run.program ∷ to_each all_five asks.accept_up_2

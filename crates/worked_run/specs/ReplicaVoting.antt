@@ -11,8 +11,8 @@ use Rattle.worked_run.specs.Primaries.{stage_of, reserve_act}
 use Rattle.worked_run.specs.Replicas.{of, opened, hears_prepare, elected, hears_ask, hears_accept, reserves, hears_chosen}
 use Rattle.worked_run.specs.ReplicaLeading.{from}
 
--- Accept: refused below the promise, Late where the slot has its value, a fetch where it is ahead of the log, and accepted
--- again without an entry where the vote stands. A primary of a lower ballot steps down.
+-- Accept: refused below the promise, Late where the slot has its value, a fetch where it is ahead of the log, and
+-- accepted again without an entry where the vote stands. A primary of a lower ballot steps down.
 pub record Accepts : Type 0 where
   pub below : of (from 4 ballots.accept_4 (hears_prepare 1).state)
       ≡ sends (sent (replica_at 4) ballots.refuse_4 ∷ [])

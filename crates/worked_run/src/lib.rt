@@ -1,9 +1,9 @@
-//! The run that the documents tell, and rows beside it, computed: each is one node's turn by its table, from the bytes that
-//! come to it to the bytes that it writes and sends.
+//! The run that the documents tell, and rows beside it, computed: each is one node's turn by its table, from the bytes
+//! that come to it to the bytes that it writes and sends.
 //!
-//! The bytes stand in `specs/` as they are written in the documents or come from a script that knows the wire format alone;
-//! none is taken from the tables. A row holds by computing the table, so a change of a rule that a row tells of is refused
-//! here.
+//! The bytes stand in `specs/` as they are written in the documents or come from a script that knows the wire format
+//! alone; none is taken from the tables. A row holds by computing the table, so a change of a rule that a row tells of
+//! is refused here.
 //!
 //! | subject | file of `specs/` |
 //! |---|---|

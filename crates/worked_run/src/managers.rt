@@ -1,7 +1,9 @@
-ghost use Rattle.worked_run.specs.ReplicaAgents.{Asks, AsksAgain, Denies, OnlyPrimary, Queues, Returns, Ups};
+ghost use Rattle.worked_run.specs.ReplicaAgents.{Asks, AsksAgain, Denies, OnlyPrimary};
+ghost use Rattle.worked_run.specs.ReplicaAgents.{ProposesAfter, Queues, Returns, Ups};
 ghost use Rattle.worked_run.specs.ReplicaDatagrams.{Datagrams};
 ghost use Rattle.worked_run.specs.ReplicaLeading.{Catches, Inherits, Leads, Prepares, Promises, Refuses, Silence};
-ghost use Rattle.worked_run.specs.ReplicaMuxes.{Acknowledges, FreedDue, GrantsDue, Hellos, Proposes, Pushes, PushesSome};
+ghost use Rattle.worked_run.specs.ReplicaMuxes.{Acknowledges, AcknowledgesTwice, FreedDue, GrantsDue, Hellos, Orders};
+ghost use Rattle.worked_run.specs.ReplicaMuxes.{Proposes, Pushes, PushesSome};
 ghost use Rattle.worked_run.specs.ReplicaRun.{Elects, Grants, Reserves};
 ghost use Rattle.worked_run.specs.ReplicaVoting.{Accepts, Counts, Fetches, Learns};
 
@@ -31,11 +33,13 @@ pub fn agreement_rows()
 pub fn muxes_rows()
     ensures hellos { Hellos }
     ensures acknowledges { Acknowledges }
+    ensures acknowledges_twice { AcknowledgesTwice }
     ensures granted { GrantsDue }
     ensures freed { FreedDue }
     ensures pushes { Pushes }
     ensures pushes_some { PushesSome }
     ensures proposes { Proposes }
+    ensures orders { Orders }
 {}
 
 /// What agents ask, and what they are told.
@@ -47,6 +51,7 @@ pub fn agents_rows()
     ensures denies { Denies }
     ensures returns { Returns }
     ensures ups { Ups }
+    ensures proposes_after { ProposesAfter }
 {}
 
 /// Datagrams that a manager doesn't take.

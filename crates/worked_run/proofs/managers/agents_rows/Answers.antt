@@ -1,4 +1,4 @@
-use Rattle.worked_run.proofs.AgentsComputed.{only_primary, asks, asks_again, queues, denies, returns, ups}
+use Rattle.worked_run.proofs.AgentsComputed.{only_primary, asks, asks_again, queues, denies, returns, ups, proposes_after}
 use Rattle.worked_run.proofs.managers.agents_rows.Goals as goal
 
 pub returns-clause-only_primary : goal.returns-clause-only_primary
@@ -21,3 +21,6 @@ returns-clause-returns c = returns
 
 pub returns-clause-ups : goal.returns-clause-ups
 returns-clause-ups c = ups
+
+pub returns-clause-proposes_after : goal.returns-clause-proposes_after
+returns-clause-proposes_after c = proposes_after

@@ -1,4 +1,4 @@
-use Rattle.worked_run.proofs.MuxesComputed.{hellos, acknowledges, grants_due, freed_due, pushes, pushes_some, proposes}
+use Rattle.worked_run.proofs.MuxesComputed.{hellos, acknowledges, acknowledges_twice, grants_due, freed_due, pushes, pushes_some, proposes, orders}
 use Rattle.worked_run.proofs.managers.muxes_rows.Goals as goal
 
 pub returns-clause-hellos : goal.returns-clause-hellos
@@ -6,6 +6,9 @@ returns-clause-hellos c = hellos
 
 pub returns-clause-acknowledges : goal.returns-clause-acknowledges
 returns-clause-acknowledges c = acknowledges
+
+pub returns-clause-acknowledges_twice : goal.returns-clause-acknowledges_twice
+returns-clause-acknowledges_twice c = acknowledges_twice
 
 pub returns-clause-granted : goal.returns-clause-granted
 returns-clause-granted c = grants_due
@@ -21,3 +24,6 @@ returns-clause-pushes_some c = pushes_some
 
 pub returns-clause-proposes : goal.returns-clause-proposes
 returns-clause-proposes c = proposes
+
+pub returns-clause-orders : goal.returns-clause-orders
+returns-clause-orders c = orders
