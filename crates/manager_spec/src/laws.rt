@@ -2,7 +2,8 @@ ghost use Rattle.std.specs.Prelude.{ℕ, List, ◌≡◌, []};
 ghost use Rattle.control_msg.specs.declared.message.Message.{Message};
 ghost use Rattle.manager_spec.specs.Agreement.{IsStep, message_step, proposal_step, tick_step};
 ghost use Rattle.manager_spec.specs.Clock.{on_tick};
-ghost use Rattle.manager_spec.specs.Footprints.{DropsOrNot, LeavesAllButOffer, LeavesAllButQueue, LeavesLog, LeavesMuxes};
+ghost use Rattle.manager_spec.specs.Footprints.{DropsOrNot, LeavesAllButOffer, LeavesAllButQueue};
+ghost use Rattle.manager_spec.specs.Footprints.{LeavesLog, LeavesMuxes};
 ghost use Rattle.manager_spec.specs.Manager.{Manager};
 ghost use Rattle.manager_spec.specs.ManagerTable.{from_agent, from_mux, from_replica, manager_half, manager_hears};
 ghost use Rattle.manager_spec.specs.Proposal.{propose};
@@ -11,10 +12,10 @@ ghost use Rattle.vip_config.specs.declared.parts.ConfigParts.{ConfigParts};
 ghost use Rattle.wire_core.specs.declared.address.Socket.{Socket};
 ghost use Rattle.wire_core.specs.declared.node.NodeId.{NodeId};
 
-/// Each row is one step of the agreement's replica, as `paxos_spec` has it, and so is the proposal that may follow: entry,
-/// memory, log and messages are the step's. So a turn of a manager is one such step, or two. That of a message of one of
-/// the agreement's seven kinds is what that message makes of the replica; that of a Lead says a Refuse or a Fetch; that of
-/// a mux or an agent says nothing and writes nothing.
+/// Each row is one step of the agreement's replica, as `paxos_spec` has it, and so is the proposal that may follow:
+/// entry, memory, log and messages are the step's. So a turn of a manager is one such step, or two. That of a message
+/// of one of the agreement's seven kinds is what that message makes of the replica; that of a Lead says a Refuse or a
+/// Fetch; that of a mux or an agent says nothing and writes nothing.
 pub fn steps()
     ensures message { (cfg : ConfigParts) (r : Manager) (from : NodeId) (m : Message)
         → IsStep cfg r (manager_hears cfg r from m).turn (message_step r from m) }

@@ -1,5 +1,6 @@
 -- What is dropped does nothing else.
-use Rattle.std.proofs.Common.{◌≡◌, refl, ap, inl, inr, ℕ, Bool, true, false, List, [], Option, Some, None, if◌then◌else◌, ◌&&◌, arith}
+use Rattle.std.proofs.Common.{◌≡◌, refl, ap, inl, inr, ℕ, Bool, true, false, List, [], Option, Some, None}
+use Rattle.std.proofs.Common.{if◌then◌else◌, ◌&&◌, arith}
 use Rattle.control_msg.specs.declared.message.Message.{Message}
 use Rattle.control_msg.specs.declared.message.Message.TheVariants as message
 use Rattle.ipip.specs.declared.wrapping.WrapFault.{WrapFault}
@@ -24,13 +25,15 @@ use Rattle.mux_spec.specs.declared.verdict.RedirectAsk.{RedirectAsk}
 use Rattle.mux_spec.specs.declared.gate.Admit.{Admit}
 use Rattle.mux_spec.specs.declared.gate.Admit.TheVariants.{WrongBoot, OldEpoch, Raise, Yes}
 use Rattle.mux_spec.specs.declared.row.Order.{Order}
-use Rattle.mux_spec.specs.Commands.{if_admitted, order, raised, refused, programs, unprograms, when_programmed, on_program, on_unprogram}
+use Rattle.mux_spec.specs.Commands.{if_admitted, order, raised, refused, programs, unprograms, when_programmed}
+use Rattle.mux_spec.specs.Commands.{on_program, on_unprogram}
 use Rattle.mux_spec.specs.Flows.{Flows}
 use Rattle.mux_spec.specs.Footprints.{CommandDrops, DropsOrNot, IsAdmitted, Leaves, Raises, Taken}
 use Rattle.mux_spec.specs.Gates.{admit}
 use Rattle.mux_spec.specs.Mux.{Mux}
 use Rattle.mux_spec.specs.MuxTable.{from_mux, from_replica}
-use Rattle.mux_spec.specs.Packets.{Outcome, Passing, Sends, Drops, after_note, from_who, noted_unless, on_packet, own_address, passed, passing, read_as, sound, to_end, to_endpoint, to_range}
+use Rattle.mux_spec.specs.Packets.{Outcome, Passing, Sends, Drops, after_note, from_who, noted_unless, on_packet}
+use Rattle.mux_spec.specs.Packets.{own_address, passed, passing, read_as, sound, to_end, to_endpoint, to_range}
 use Rattle.mux_spec.specs.Redirects.{on_redirect_ask}
 use Rattle.mux_spec.specs.Rows.{Rows, kept_at, programmed}
 use Rattle.mux_spec.specs.Services.{chosen_for}

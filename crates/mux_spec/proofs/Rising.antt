@@ -1,5 +1,6 @@
 -- What never falls.
-use Rattle.std.proofs.Common.{◌≡◌, refl, inl, inr, ℕ, Bool, true, false, List, [], ◌∷◌, Option, Some, None, unwrap_or, max, ◌≤◌, ◌<◌, nat_lt, nat_le, arith}
+use Rattle.std.proofs.Common.{◌≡◌, refl, inl, inr, ℕ, Bool, true, false, List, [], ◌∷◌, Option, Some, None, unwrap_or}
+use Rattle.std.proofs.Common.{max, ◌≤◌, ◌<◌, nat_lt, nat_le, arith}
 use Rattle.std.specs.Map.{lookup, set_value}
 use Rattle.std.proofs.lemmas.Bool.Decides.{nat_tests}
 use Rattle.control_msg.specs.declared.message.Message.{Message}
