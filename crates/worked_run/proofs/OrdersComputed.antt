@@ -2,11 +2,11 @@
 use Rattle.std.proofs.Common.{refl}
 use Rattle.node_spec.proofs.OnLiterals.{node_on_literals}
 use Rattle.mux_spec.proofs.OnLiterals.{mux_on_literals}
-use Rattle.worked_run.proofs.OnLiterals.{below_on_literals}
+use Rattle.worked_run.proofs.OnLiterals.{below_on_literals, packets_on_literals}
 use Rattle.worked_run.specs.MuxOrders.{IsRefused, Programs, Unprograms, NotIts, Untaken, Redirects}
 
 pub is_refused : IsRefused
-unfolding node_on_literals mux_on_literals below_on_literals
+unfolding node_on_literals mux_on_literals below_on_literals packets_on_literals
 is_refused = record {
   old_epoch = refl;
   old_epoch_leaves = refl;
@@ -17,7 +17,7 @@ is_refused = record {
 }
 
 pub programs : Programs
-unfolding node_on_literals mux_on_literals below_on_literals
+unfolding node_on_literals mux_on_literals below_on_literals packets_on_literals
 programs = record {
   first = refl;
   first_row = refl;
@@ -34,7 +34,7 @@ programs = record {
 }
 
 pub unprograms : Unprograms
-unfolding node_on_literals mux_on_literals below_on_literals
+unfolding node_on_literals mux_on_literals below_on_literals packets_on_literals
 unprograms = record {
   same = refl;
   same_row = refl;
@@ -48,7 +48,7 @@ unprograms = record {
 }
 
 pub not_its : NotIts
-unfolding node_on_literals mux_on_literals below_on_literals
+unfolding node_on_literals mux_on_literals below_on_literals packets_on_literals
 not_its = record {
   machine = refl;
   no_vip = refl;
@@ -58,9 +58,9 @@ not_its = record {
 }
 
 pub untaken : Untaken
-unfolding node_on_literals mux_on_literals below_on_literals
+unfolding node_on_literals mux_on_literals below_on_literals packets_on_literals
 untaken = record {
-  of_mux = refl;
+  of_other = refl;
   of_agent = refl;
   of_machine = refl;
   of_router = refl;
@@ -74,7 +74,7 @@ untaken = record {
 }
 
 pub redirects : Redirects
-unfolding node_on_literals mux_on_literals below_on_literals
+unfolding node_on_literals mux_on_literals below_on_literals packets_on_literals
 redirects = record {
   both = refl;
   no_row = refl;

@@ -2,11 +2,12 @@
 use Rattle.std.proofs.Common.{refl}
 use Rattle.node_spec.proofs.OnLiterals.{node_on_literals}
 use Rattle.mux_spec.proofs.OnLiterals.{mux_on_literals}
-use Rattle.worked_run.proofs.OnLiterals.{below_on_literals}
+use Rattle.mux_spec.specs.Flows.{most_trusted, most_untrusted}
+use Rattle.worked_run.proofs.OnLiterals.{below_on_literals, packets_on_literals}
 use Rattle.worked_run.specs.MuxPackets.{Refusals, Forwards, Notes, Ticks}
 
 pub refusals : Refusals
-unfolding node_on_literals mux_on_literals below_on_literals
+unfolding node_on_literals mux_on_literals below_on_literals packets_on_literals
 refusals = record {
   replica = refl;
   mux = refl;
@@ -23,7 +24,7 @@ refusals = record {
 }
 
 pub forwards : Forwards
-unfolding node_on_literals mux_on_literals below_on_literals
+unfolding node_on_literals mux_on_literals below_on_literals packets_on_literals
 forwards = record {
   reply = refl;
   reply_leaves = refl;
@@ -33,7 +34,7 @@ forwards = record {
 }
 
 pub notes : Notes
-unfolding node_on_literals mux_on_literals below_on_literals
+unfolding node_on_literals mux_on_literals below_on_literals packets_on_literals most_untrusted most_trusted
 notes = record {
   first = refl;
   first_without_syn = refl;
@@ -48,7 +49,7 @@ notes = record {
 }
 
 pub ticks : Ticks
-unfolding node_on_literals mux_on_literals below_on_literals
+unfolding node_on_literals mux_on_literals below_on_literals packets_on_literals
 ticks = record {
   idle = refl;
   not_yet = refl;

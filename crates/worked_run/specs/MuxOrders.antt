@@ -117,7 +117,7 @@ pub record NotIts : Type 0 where
 
 -- What isn't for a mux, and what is no message: only replicas command, and redirects aren't asked for yet.
 pub record Untaken : Type 0 where
-  pub of_mux : step (of_mux fresh other_mux_at program) ≡ dropped WrongRole
+  pub of_other : step (of_mux fresh other_mux_at program) ≡ dropped WrongRole
   pub of_agent : step (of_mux fresh agent_at program) ≡ dropped WrongRole
   pub of_machine : step (of_mux fresh machine_at program) ≡ dropped NotNode
   pub of_router : step (of_mux fresh router_at program) ≡ dropped NotNode
