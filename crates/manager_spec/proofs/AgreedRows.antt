@@ -148,13 +148,13 @@ late_leaves l from c length vote own = by_if Keeps
 
 promise_by : (cfg : ConfigParts) (r : Manager) (l : LeaderState) (s : LeadStep)
     → (is_late_promise s ≡ true → l ≡ r.memory.leader)
-      → IsOwn r.index (promise_led r.index (reach r.acceptor) r.memory l s)
+    → IsOwn r.index (promise_led r.index (reach r.acceptor) r.memory l s)
     → IsStep cfg r
     (if is_late_promise s then drop_turn r Late else agrees cfg r (promise_led r.index (reach r.acceptor) r.memory l s))
     (promise_led r.index (reach r.acceptor) r.memory l s)
 promise_by cfg r l lead.Late same own =
     same_step cfg r _ _ _ (ap (λ (x : LeaderState). still (with_leader r.memory x)) (sym (same refl)))
-      (drops_is cfg r Late)
+    (drops_is cfg r Late)
 promise_by cfg r l lead.More same own = agrees_is cfg r r _ refl refl own
 promise_by cfg r l (lead.Catch from slot) same own = agrees_is cfg r r _ refl refl own
 promise_by cfg r l lead.Inherit same own = agrees_is cfg r r _ refl refl own
@@ -173,7 +173,7 @@ promise_is cfg r from c length vote value =
 -- a Refuse that counts for nothing
 refused_late : (m : Memory) (c p : ℕ)
     → (not (is_follower m.leader.stage) && (m.leader.ballot == c) && nat_lt c p) ≡ false
-      → paxos.on_refuse m c p ≡ still m
+    → paxos.on_refuse m c p ≡ still m
 unfolding paxos.on_refuse
 refused_late m c p e = rw e refl
 
@@ -185,7 +185,7 @@ refuse_is cfg r from c p =
   where
     by : (b : Bool) → (not (is_follower r.memory.leader.stage) && (r.memory.leader.ballot == c) && nat_lt c p) ≡ b
         → IsStep cfg r (if b then agrees cfg (record r { heard = r.time }) (paxos.on_refuse r.memory c p)
-          else drop_turn r Late)
+        else drop_turn r Late)
         (paxos.on_refuse r.memory c p)
     by true e = agrees_is cfg r (record r { heard = r.time }) _ refl refl
         (message_own r.index r.acceptor r.memory from (body.Refuse c p))
@@ -250,7 +250,7 @@ fetch_is cfg r from slot = by (nat_lt slot (reach r.acceptor)) refl
     by true e = agrees_is cfg r r _ refl refl (message_own r.index r.acceptor r.memory from (body.Fetch slot))
     by false e = same_step cfg r _ _ _
         (sym (ap (paxos.fetched r.index r.memory from slot) (slice_get_past r.acceptor.log slot (past e))))
-          (drops_is cfg r Late)
+        (drops_is cfg r Late)
 
 first_none : {X : Type 0} (e : Option X) → first_of e None ≡ e
 first_none None = refl
@@ -303,7 +303,7 @@ not_next r from c slot e = rw e refl
 
 pub accepted_is : (cfg : ConfigParts) (r : Manager) (from c slot : ℕ)
     → IsStep cfg r (on_accepted cfg r from c slot).turn
-      (on_message r.index r.acceptor r.memory from (body.Accepted c slot))
+    (on_message r.index r.acceptor r.memory from (body.Accepted c slot))
 unfolding on_accepted
 accepted_is cfg r from c slot = by (is_next r.acceptor slot) refl
   where
@@ -361,7 +361,7 @@ runs_is cfg r = by (is_primary r.memory.leader.stage)
     Runs o = IsOwn r.index o → IsStep cfg r (runs_for cfg r o) o
 
     by : (b : Bool) → IsStep cfg r (runs_for cfg r (on_campaign r.index r.acceptor r.memory))
-      (on_campaign r.index r.acceptor r.memory)
+        (on_campaign r.index r.acceptor r.memory)
     by b = by_if Runs (is_primary r.memory.leader.stage) (λ _ own. quiet_is cfg r r r.memory refl refl refl)
         (λ _. runs_by cfg r (campaign r.memory.leader (max r.acceptor.promise r.memory.seen) r.index).0
         (campaign r.memory.leader (max r.acceptor.promise r.memory.seen) r.index).1)

@@ -63,7 +63,7 @@ ack_is cfg r with_one mux epoch boot n = by_if (Stays cfg r)
     (is_primary r.memory.leader.stage && (r.memory.leader.ballot == epoch) && is_some (row_at (leases cfg r).rows n))
     {y = stops (drop_turn r Late)}
     (λ _. quiet_is cfg r (record (hear_mux r mux boot)
-      { acks = set_marks r.acks n (with_one (marks_at r.acks n) mux boot) })
+    { acks = set_marks r.acks n (with_one (marks_at r.acks n) mux boot) })
     r.memory refl refl refl)
     (λ _. drops_is cfg r Late)
 

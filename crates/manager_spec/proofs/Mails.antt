@@ -82,7 +82,7 @@ new_mute : (me epoch : ℕ) (peers : List Peer) (o : Option Row) → Each (IsMut
 new_mute me epoch peers None = tt
 new_mute me epoch peers (Some row) =
     by_if (Each (IsMute me)) (is_being row.phase) (λ _. each_map (IsMute me) (program epoch row) (λ p. refl) peers)
-      (λ _. tt)
+    (λ _. tt)
 
 denied_mute : (me : ℕ) (o : Option ℕ) (boot : ℕ) (machine : Rattle.wire_core.specs.declared.address.Ip4.Ip4)
     (seq reason number : ℕ)

@@ -155,7 +155,7 @@ grant_drops r None = drops r Late
 grant_drops r (Some row) = by_if (DropsOrNot r) (is_being row.phase) {x = stops (drop_turn r Waiting)}
     (λ _. drops r Waiting)
     (λ _. by_if (DropsOrNot r) (is_freeing row.phase) {x = stops (drop_turn r Late)} (λ _. drops r Late)
-      (λ _. inl refl))
+    (λ _. inl refl))
 
 again_drops : (cfg : ConfigParts) (r : Manager) (agent boot : ℕ) (machine : Ip4) (seq : ℕ) (o : Outcome)
     → DropsOrNot r (answer_again cfg r agent boot machine seq o)

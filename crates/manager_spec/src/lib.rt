@@ -19,14 +19,14 @@
 //! | which step of the agreement a row is | `Agreement` |
 //! | what each row leaves as it was | `Footprints` |
 //!
-//! That it is so of every row say [`steps`], [`drops`] and [`footprints`]. The bundle `proofs/OnLiterals` opens the
-//! words of this crate where a row is computed.
+//! That it is so of every row say [`steps`], [`drops`], [`footprints`] and [`followers_rest`]. The bundle
+//! `proofs/OnLiterals` opens the words of this crate where a row is computed.
 #![tactic(auto)]
 
 mod laws;
 mod marks;
 mod peer;
 
-pub use laws::{drops, footprints, steps};
+pub use laws::{drops, followers_rest, footprints, steps};
 pub use marks::Marks;
 pub use peer::Peer;
