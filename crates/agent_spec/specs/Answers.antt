@@ -88,9 +88,9 @@ on_grant c a from boot machine seq n r =
 -- the ask is over, and each held packet is dropped
 abbrev pub refused : Agent → ℕ → Host → Turn Agent
 refused a from h =
-  record (quiet (record a { hint = from; hosts = put_host (record h { queue = []; ask = None }) a.hosts })) {
-  notes = map (λ (p : List ℕ). Dropped drop.Denied) h.queue;
-}
+    record (quiet (record a { hint = from; hosts = put_host (record h { queue = []; ask = None }) a.hosts })) {
+      notes = map (λ (p : List ℕ). Dropped drop.Denied) h.queue;
+    }
 
 -- of the ask that is out
 abbrev pub denied : Agent → ℕ → ℕ → Option Host → Turn Agent
@@ -110,7 +110,8 @@ with_returned a from n = record a { hint = from; traffic = with_ranges a.traffic
 -- Returned: the number needn't be given back again.
 unfoldable pub on_returned : Agent → ℕ → ℕ → ℕ → Turn Agent
 on_returned a from boot n =
-    of_own_boot a boot (if is_returning n a.traffic.ranges then quiet (with_returned a from n) else drop_turn a drop.Late)
+    of_own_boot a boot
+    (if is_returning n a.traffic.ranges then quiet (with_returned a from n) else drop_turn a drop.Late)
 
 -- AgentKnown: a primary knows this boot.
 unfoldable pub on_known : Agent → ℕ → ℕ → Turn Agent

@@ -49,8 +49,8 @@ abbrev pub with_port : ConfigParts → Traffic → Ip4 → List ℕ → Option (
 with_port c t vip p None = None
 with_port c t vip p (Some chosen) =
     Some (also
-      (open_conn t (new_connection t.time (key_of p) vip chosen))
-      (λ u. use_conn c u (new_connection t.time (key_of p) vip chosen) p))
+    (open_conn t (new_connection t.time (key_of p) vip chosen))
+    (λ u. use_conn c u (new_connection t.time (key_of p) vip chosen) p))
 
 -- A new connection: through the first port of the machine's ranges, by n, that isn't used to the same remote end.
 unfoldable pub new_conn : ConfigParts → Traffic → List ℕ → Option Ip4 → Option (Turn Traffic)

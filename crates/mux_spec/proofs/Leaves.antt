@@ -22,7 +22,8 @@ passed_leaves : (c : ConfigParts) (m : Mux) (x : Passing) → LeavesAllButFlows 
 passed_leaves c m (flows, Sends machine bytes ask) = record { state = refl; entry = refl; acts = refl }
 passed_leaves c m (flows, Drops cause) = record { state = refl; entry = refl; acts = refl }
 
-pub packet_leaves : (c : ConfigParts) (m : Mux) (sender : Who) (bytes : List ℕ) → LeavesAllButFlows m (on_packet c m sender bytes)
+pub packet_leaves : (c : ConfigParts) (m : Mux) (sender : Who) (bytes : List ℕ)
+    → LeavesAllButFlows m (on_packet c m sender bytes)
 unfolding on_packet
 packet_leaves c m sender bytes = passed_leaves c m (passing c m sender bytes)
 
@@ -34,7 +35,8 @@ unprogram_leaves : (c : ConfigParts) (m : Mux) (o : Order) → LeavesFlows m (on
 unfolding on_unprogram unprograms refused admit
 unprogram_leaves c m o = grind arith
 
-pub command_leaves : (c : ConfigParts) (m : Mux) (from : ℕ) (message : Message) → LeavesFlows m (from_replica c m from message)
+pub command_leaves : (c : ConfigParts) (m : Mux) (from : ℕ) (message : Message)
+    → LeavesFlows m (from_replica c m from message)
 command_leaves c m from message = grind (arith, program_leaves, unprogram_leaves)
 
 pub mux_leaves : (c : ConfigParts) (m : Mux) (message : Message) → LeavesAll m (from_mux c m message)

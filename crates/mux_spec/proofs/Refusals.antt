@@ -67,7 +67,8 @@ endpoint_keeps c own flows time p chosen = noted_keeps c own flows time p chosen
 end_keeps : (c : ConfigParts) (own : Ip4) (rows : Rows) (time : ℕ) (flows : Flows) (p : List ℕ) (o : Option Ip4)
     → Keeps flows (to_end c own rows time flows p o)
 end_keeps c own rows time flows p (Some chosen) = endpoint_keeps c own flows time p chosen
-end_keeps c own rows time flows p None = same_flows flows (to_range c own rows p (range_of (key_of p).dst (key_of p).dport))
+end_keeps c own rows time flows p None =
+    same_flows flows (to_range c own rows p (range_of (key_of p).dst (key_of p).dport))
 
 sound_keeps : (c : ConfigParts) (own : Ip4) (rows : Rows) (time : ℕ) (flows : Flows) (p : List ℕ)
     → Keeps flows (sound c own rows time flows p)
@@ -93,7 +94,8 @@ passed_drops : (c : ConfigParts) (m : Mux) (x : Passing) → Keeps m.flows x →
 passed_drops c m (flows, Sends machine bytes ask) same = inl refl
 passed_drops c m (flows, Drops cause) same = inr (cause, ap (λ f. drop_turn (record m { flows = f }) cause) same)
 
-pub packet_drops : (c : ConfigParts) (m : Mux) (sender : Who) (bytes : List ℕ) → DropsOrNot m (on_packet c m sender bytes)
+pub packet_drops : (c : ConfigParts) (m : Mux) (sender : Who) (bytes : List ℕ)
+    → DropsOrNot m (on_packet c m sender bytes)
 unfolding on_packet passing
 packet_drops c m sender bytes =
     passed_drops c m (passing c m sender bytes)
@@ -120,15 +122,19 @@ program_obeyed c o machine m =
 
 unprogram_obeyed : (c : ConfigParts) (o : Order) (m : Mux) → Obeyed m (unprograms c o m)
 unfolding unprograms
-unprogram_obeyed c o m = by_if (Obeyed m) (is_leasable (lease_rules_of c) o.range) (Does refl) (Refuses drop.NotMine tt refl)
+unprogram_obeyed c o m =
+    by_if (Obeyed m) (is_leasable (lease_rules_of c) o.range) (Does refl) (Refuses drop.NotMine tt refl)
 
-raised_drops : (m : Mux) (epoch : ℕ) (t : Turn Mux) → Obeyed (raised m epoch) t → CommandDrops m (writes (Epoch epoch) t)
+raised_drops : (m : Mux) (epoch : ℕ) (t : Turn Mux) → Obeyed (raised m epoch) t
+    → CommandDrops m (writes (Epoch epoch) t)
 raised_drops m epoch t (Does notes) = Taken notes
-raised_drops m epoch t (Refuses cause own is) = Raises cause own (ap (λ x. x.notes) is) epoch (ap (λ x. x.state) is) refl
+raised_drops m epoch t (Refuses cause own is) =
+    Raises cause own (ap (λ x. x.notes) is) epoch (ap (λ x. x.state) is) refl
 
 obeyed_drops : (m : Mux) (t : Turn Mux) → Obeyed m t → CommandDrops m t
 obeyed_drops m t (Does notes) = Taken notes
-obeyed_drops m t (Refuses cause own is) = Leaves cause (ap (λ x. x.notes) is) (ap (λ x. x.state) is) (ap (λ x. x.entry) is)
+obeyed_drops m t (Refuses cause own is) =
+    Leaves cause (ap (λ x. x.notes) is) (ap (λ x. x.state) is) (ap (λ x. x.entry) is)
 
 admitted_drops : (m : Mux) (o : Order) (a : Admit) (obey : Mux → Turn Mux) → ((n : Mux) → Obeyed n (obey n))
     → CommandDrops m (if_admitted m o a obey)
@@ -150,10 +156,12 @@ unprogram_drops c m o = admitted_drops m o (admit m.gate o.epoch o.boot) (unprog
 no_role : (m : Mux) → CommandDrops m (drop_turn m drop.WrongRole)
 no_role m = Leaves drop.WrongRole refl refl refl
 
-pub command_drops : (c : ConfigParts) (m : Mux) (from : ℕ) (message : Message) → CommandDrops m (from_replica c m from message)
+pub command_drops : (c : ConfigParts) (m : Mux) (from : ℕ) (message : Message)
+    → CommandDrops m (from_replica c m from message)
 command_drops c m from (message.Program epoch boot n vip start machine) =
     program_drops c m (order from epoch boot n vip start) machine
-command_drops c m from (message.Unprogram epoch boot n vip start) = unprogram_drops c m (order from epoch boot n vip start)
+command_drops c m from (message.Unprogram epoch boot n vip start) =
+    unprogram_drops c m (order from epoch boot n vip start)
 command_drops c m from _ = no_role m
 
 -- ---- redirects

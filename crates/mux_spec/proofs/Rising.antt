@@ -30,7 +30,8 @@ use Rattle.mux_spec.proofs.Leaves.{mux_leaves, packet_leaves}
 -- a row that is put where none or a lesser number stands lowers no number
 put_rises : (test : Range → Bool) (rows : Rows) (k : Kept) (q : Range)
     → (unwrap_or (lookup test rows) no_row).n ≤ k.n
-    → (unwrap_or (lookup (same_range q) rows) no_row).n ≤ (unwrap_or (lookup (same_range q) (set_value test rows k)) no_row).n
+    → (unwrap_or (lookup (same_range q) rows) no_row).n
+    ≤ (unwrap_or (lookup (same_range q) (set_value test rows k)) no_row).n
 put_rises test [] k q h = grind arith
 put_rises test (e ∷ rows) k q h = grind (arith, nat_tests, h, put_rises test rows k q)
 
@@ -120,7 +121,8 @@ rises_step c m (Ticked now) = rises_tick c m now
 
 -- ---- answers
 
-answers_program : (c : ConfigParts) (m : Mux) (o : Order) (machine : Ip4) → AnswersBy m.gate.boot o.from (on_program c m o machine)
+answers_program : (c : ConfigParts) (m : Mux) (o : Order) (machine : Ip4)
+    → AnswersBy m.gate.boot o.from (on_program c m o machine)
 unfolding on_program programs refused admit
 answers_program c m o machine = grind (arith, nat_tests)
 

@@ -53,8 +53,8 @@ IsAdmitted drop.NotMine = Unit {0}
 IsAdmitted (drop.OldNumber kept) = Unit {0}
 IsAdmitted _ = ⊥
 
--- A command that is dropped leaves everything as it was, unless it raised the epoch before: then the greater epoch and its
--- entry stay.
+-- A command that is dropped leaves everything as it was, unless it raised the epoch before: then the greater epoch
+-- and its entry stay.
 pub data CommandDrops (m : Mux) (t : Turn Mux) : Type 0 where
   Taken : t.notes ≡ [] → CommandDrops m t
   Leaves : (cause : DropCause) → t.notes ≡ Dropped cause ∷ [] → t.state ≡ m → t.entry ≡ None → CommandDrops m t
@@ -76,11 +76,12 @@ AnswersBy boot from t = Each (λ (s : Send). (s.to ≡ ToNode from) × CarriesBo
 
 -- ---- what only rises
 
--- A mux keeps its number and its boot; its epoch, its time and the kept number of each range never fall. A greater epoch is
--- durable with the turn that raises it.
+-- A mux keeps its number and its boot; its epoch, its time and the kept number of each range never fall. A greater
+-- epoch is durable with the turn that raises it.
 pub record Rises (m : Mux) (t : Turn Mux) : Type 0 where
   pub index : t.state.index ≡ m.index
   pub boot : t.state.gate.boot ≡ m.gate.boot
-  pub epoch : (t.state.gate ≡ m.gate) ⊎ ((m.gate.epoch < t.state.gate.epoch) × (t.entry ≡ Some (Epoch t.state.gate.epoch)))
+  pub epoch : (t.state.gate ≡ m.gate)
+      ⊎ ((m.gate.epoch < t.state.gate.epoch) × (t.entry ≡ Some (Epoch t.state.gate.epoch)))
   pub time : m.time ≤ t.state.time
   pub kept : (r : Range) → (kept_at m.rows r).n ≤ (kept_at t.state.rows r).n

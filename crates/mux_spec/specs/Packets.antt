@@ -135,7 +135,8 @@ passing c m sender bytes = from_who c (own_address c m.index) m.rows m.time m.fl
 
 -- the mux that has the flow's hash
 abbrev pub asked_mux : ConfigParts → RedirectAsk → ℕ
-asked_mux c a = hash (record { src = a.src; dst = a.dst; sport = a.sport; dport = a.dport; proto = Tcp }) % length c.muxes
+asked_mux c a =
+    hash (record { src = a.src; dst = a.dst; sport = a.sport; dport = a.dport; proto = Tcp }) % length c.muxes
 
 -- the question to the other mux
 abbrev pub asks : ConfigParts → Option RedirectAsk → List Send

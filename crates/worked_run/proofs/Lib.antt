@@ -8,3 +8,6 @@ pub mod VotingComputed
 pub mod MuxRunComputed
 pub mod OrdersComputed
 pub mod PacketsComputed
+pub mod AgentRunComputed
+pub mod LeasesComputed
+pub mod MachinesComputed

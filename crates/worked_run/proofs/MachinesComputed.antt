@@ -40,7 +40,7 @@ undelivered = record {
 pub for_another : ForAnother
 unfolding node_on_literals agent_on_literals below_on_literals packets_on_literals
 for_another = record {
-  dropped = refl;
+  wrong_machine = refl;
   no_snat = refl;
 }
 
@@ -62,6 +62,7 @@ endpoints = record {
   in_the_way_leaves = refl;
   idle = refl;
   idle_acts = refl;
+  not_idle = refl;
 }
 
 pub redirects : Redirects

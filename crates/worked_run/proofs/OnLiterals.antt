@@ -17,8 +17,10 @@ use Rattle.packet_spec.specs.Segments.{pseudo_header, segment_fault, read_segmen
 use Rattle.packet_spec.specs.Sums.{ones_add, ones_sum, checksum}
 use Rattle.ipip.specs.Wrapping.{lowered, wrapped, wrap_fault}
 use Rattle.control_msg.specs.Reading.{address_at, start_at, reason_at, side_at, vote_value_at, number_at}
-use Rattle.control_msg.specs.Reading.{two_numbers_at, three_numbers_at, valued_at, promise_at, ask_at, grant_at, denied_at}
+use Rattle.control_msg.specs.Reading.{two_numbers_at, three_numbers_at, valued_at, promise_at, ask_at, grant_at}
+use Rattle.control_msg.specs.Reading.{denied_at}
 use Rattle.control_msg.specs.Reading.{program_at, unprogram_at, redirect_ask_at, redirect_at, message_at}
+use Rattle.vip_config.specs.Serving.{snat_vip, endpoint_for, member_at}
 use Rattle.lease_spec.specs.Free.{first_start, least_free}
 use Rattle.lease_spec.specs.Table.{raise_known, decide, reserve, grant, release, free, up, story, apply}
 use Rattle.paxos_spec.specs.Acceptor.{state_of}
@@ -39,5 +41,5 @@ unfoldable pub packets_on_literals : ⊤
 unfolding layout_of put_source put_destination put_ttl clamp put_header_sum put_segment_sum set_source set_destination
     clamp_mss translate_source translate_destination translated restored whole ip_fault read_ip header_bytes option_at
     mss_from mss_at packet_fault read_packet key_of has_syn has_ack has_rst pseudo_header segment_fault
-    read_segment ones_add ones_sum checksum lowered wrapped wrap_fault hash fnv_1a_step
+    read_segment ones_add ones_sum checksum lowered wrapped wrap_fault hash fnv_1a_step snat_vip endpoint_for member_at
 packets_on_literals = tt

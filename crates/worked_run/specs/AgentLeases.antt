@@ -51,8 +51,8 @@ pub record Holds : Type 0 where
   pub leave : of_agent (told (held_after 64) grant)
       ≡ does (Hold 1 ∷ Open connection ∷ []) (sends (copies (sent router_at packet_left) 64))
 
--- Denied: the ask is over, each held packet is dropped, and the next packet asks again, the replica that said so. One that
--- isn't of the ask that is out is late.
+-- Denied: the ask is over, each held packet is dropped, and the next packet asks again, the replica that said so. One
+-- that isn't of the ask that is out is late.
 pub record Denies : Type 0 where
   pub both : of_agent (told (held_after 2) leasing.denied_1)
       ≡ record no_step { notes = Dropped Denied ∷ Dropped Denied ∷ [] }
@@ -74,7 +74,8 @@ holding = (told fresh grant).state
 abbrev pub again : Agent
 again = opened_agent run_config 0 (Boot 1 3 0 1 ∷ Boot 1 3 0 2 ∷ [])
 
--- Grant: not of another boot; not for a machine or a range that isn't its own; once. Nothing is asked for without packets.
+-- Grant: not of another boot; not for a machine or a range that isn't its own; once. Nothing is asked for without
+-- packets.
 pub record GrantsTaken : Type 0 where
   pub alone : of_agent (told fresh grant) ≡ does (Hold 1 ∷ []) no_step
   pub boot : of_agent (told again grant) ≡ dropped (WrongBoot 2)
@@ -112,7 +113,8 @@ pub record Idles : Type 0 where
   pub not_known : of_agent (agent_ticks run_config (told fresh leasing.known_2).state 1000)
       ≡ sends (to_each all_five leasing.up_1)
   pub never_again : of_agent (told idle_twice.state grant) ≡ dropped (OldGrant 1)
-  pub never_again_returned : of_agent (told (told idle_twice.state leasing.returned_1).state grant) ≡ dropped (OldGrant 1)
+  pub never_again_returned : of_agent (told (told idle_twice.state leasing.returned_1).state grant)
+      ≡ dropped (OldGrant 1)
   pub unused : of_agent (agent_ticks run_config holding 30000)
       ≡ does (Drop 1 ∷ []) (sends (to_each all_five leasing.up_1 ++ to_each all_five leasing.gives_back_1))
 

@@ -1,6 +1,6 @@
 -- Rows of the host agent on packets: which ports they leave through, what is handed, and what isn't.
-use Rattle.std.specs.Prelude.{ℕ, List, [], ◌∷◌, Some, None, drop, ◌≡◌}
-use Rattle.wire_core.specs.declared.act.Act.TheVariants.{Close, Hand, Open}
+use Rattle.std.specs.Prelude.{ℕ, List, [], ◌∷◌, Some, None, drop, length, ◌≡◌}
+use Rattle.wire_core.specs.declared.act.Act.TheVariants.{Close, Drop, Hand, Open}
 use Rattle.wire_core.specs.declared.address.Ip4.{Ip4}
 use Rattle.wire_core.specs.declared.address.Socket.{Socket}
 use Rattle.wire_core.specs.declared.cause.DropCause.TheVariants as cause
@@ -98,17 +98,22 @@ abbrev pub shared : ConfigParts
 shared = record run_config {
   agents = record {
     socket = agent_at;
-    machines = record { address = machine; attach = machine_at } ∷ record { address = other_machine; attach = other_machine_at } ∷ [];
+    machines = record { address = machine; attach = machine_at }
+        ∷ record { address = other_machine; attach = other_machine_at } ∷ [];
   } ∷ [];
 }
 
+-- its first machine has a connection
+abbrev pub shared_open : Agent
+shared_open =
+    (agent_hears shared (agent_hears shared (opened_first shared) (replica_at 0) grant).state machine_at packet_out).state
+
 -- A reply that is wrapped for another machine than the one that opened the connection.
 pub record ForAnother : Type 0 where
-  pub dropped : step_of shared (agent_hears shared
-      (agent_hears shared (agent_hears shared (opened_first shared) (replica_at 0) grant).state machine_at packet_out).state
-      mux_at packets.reply_for_other)
+  pub wrong_machine : step_of shared (agent_hears shared shared_open mux_at packets.reply_for_other)
       ≡ dropped cause.WrongMachine
-  pub no_snat : step_of shared (agent_hears shared (opened_first shared) other_machine_at asks.of_server) ≡ dropped cause.NoSnat
+  pub no_snat : step_of shared (agent_hears shared (opened_first shared) other_machine_at asks.of_server)
+      ≡ dropped cause.NoSnat
 
 -- the TCP connection of the machine, through the first port
 abbrev pub opened_tcp : Conn
@@ -122,8 +127,11 @@ pub record Resets : Type 0 where
   pub opens : step (brings with_range packets.tcp_out) ≡ does (Open opened_tcp ∷ []) (leaves packets.tcp_left)
   pub out : step (brings tcp_open packets.reset_out) ≡ does (Close opened_tcp ∷ []) (leaves packets.reset_left)
   pub inward : step (gets tcp_open packets.reset_wrapped)
-      ≡ does (Hand machine (drop 1 packets.reset_handed) ∷ Close opened_tcp ∷ []) (sends (sent machine_at packets.reset_handed ∷ []))
-  pub closed : step (gets (gets tcp_open packets.reset_wrapped).state packets.reset_wrapped) ≡ dropped cause.NoConnection
+      ≡ does
+      (Hand machine (drop 1 packets.reset_handed) ∷ Close opened_tcp ∷ [])
+      (sends (sent machine_at packets.reset_handed ∷ []))
+  pub closed : step (gets (gets tcp_open packets.reset_wrapped).state packets.reset_wrapped)
+      ≡ dropped cause.NoConnection
 
 -- ---- endpoints
 
@@ -135,15 +143,17 @@ entered = (gets with_range packets.syn_wrapped).state
 abbrev pub taken : Agent
 taken = (brings with_range packets.private_out).state
 
--- A packet to an endpoint is handed to its machine's own port, and the answer leaves from the endpoint; a connection of
--- the machine with the same ends is in the way. An entry leaves after 60 seconds, without an act.
+-- A packet to an endpoint is handed to its machine's own port, and the answer leaves from the endpoint; a connection
+-- of the machine with the same ends is in the way. An entry leaves after 60 seconds, without an act (the range, which
+-- has no connection, was to be given back before).
 pub record Endpoints : Type 0 where
   pub first : step (gets with_range packets.syn_wrapped) ≡ hands packets.syn_handed
   pub answered : step (brings entered packets.answer) ≡ leaves packets.answer_left
   pub in_the_way : step (gets taken packets.syn_wrapped) ≡ dropped cause.KeyInUse
   pub in_the_way_leaves : (gets taken packets.syn_wrapped).state ≡ taken
   pub idle : (agent_ticks serving entered 60000).state.traffic.inbound ≡ []
-  pub idle_acts : (agent_ticks serving entered 59999).acts ≡ []
+  pub idle_acts : (agent_ticks serving entered 60000).acts ≡ Drop 1 ∷ []
+  pub not_idle : length (agent_ticks serving entered 59999).state.traffic.inbound ≡ 1
 
 -- ---- without a mux
 
@@ -164,17 +174,19 @@ redirection side n = record {
 abbrev pub redirected : Agent
 redirected = (on_redirect serving tcp_open 0 (redirection 0 1)).state
 
--- Not yet: a Redirect isn't taken. What it will do: the opener's packets go to the peer's agent, wrapped, with their time
--- to live; a number that isn't the connection's is stale; one without a connection is for nobody.
+-- Not yet: a Redirect isn't taken. What it will do: the opener's packets go to the peer's agent, wrapped, with their
+-- time to live; a number that isn't the connection's is stale; one without a connection is for nobody.
 pub record Redirects : Type 0 where
   pub not_yet : step (agent_hears serving tcp_open mux_at redirect_opener) ≡ dropped cause.WrongRole
   pub of_replica : step (agent_hears serving tcp_open (replica_at 0) redirect_opener) ≡ dropped cause.NotFromMux
-  pub opener : step (brings redirected packets.direct_last_hop) ≡ sends (sent other_agent_at packets.direct_last_hop_wrapped ∷ [])
+  pub opener : step (brings redirected packets.direct_last_hop)
+      ≡ sends (sent other_agent_at packets.direct_last_hop_wrapped ∷ [])
   pub no_hop : step (brings redirected packets.direct_no_hop) ≡ dropped cause.TtlOut
   pub stale : step (on_redirect serving tcp_open 0 (redirection 0 17)) ≡ dropped (cause.StaleLease 1)
   pub nobody : step (on_redirect serving with_range 0 (redirection 0 1)) ≡ dropped cause.NoConnection
   pub server_nobody : step (on_redirect serving tcp_open 0 (redirection 1 1)) ≡ dropped cause.NoConnection
-  pub foreign : step (on_redirect serving tcp_open 0 (record (redirection 0 1) { server = ip 10 1 0 9 })) ≡ dropped cause.NotMine
+  pub foreign : step (on_redirect serving tcp_open 0 (record (redirection 0 1) { server = ip 10 1 0 9 }))
+      ≡ dropped cause.NotMine
 
 -- What isn't for an agent.
 pub record Untaken : Type 0 where

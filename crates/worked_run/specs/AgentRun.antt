@@ -49,7 +49,8 @@ connection = record {
   sport = 5000;
 }
 
--- The packet is held and a range asked for; with the range a connection opens and the packet leaves; the reply is handed.
+-- The packet is held and a range asked for; with the range a connection opens and the packet leaves; the reply is
+-- handed.
 pub record AgentLines : Type 0 where
   pub queued : step_of run_config holds_packet
       ≡ record no_step { notes = Queued machine 1 ∷ []; sends = sent (replica_at 0) ask ∷ [] }

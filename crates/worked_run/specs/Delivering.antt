@@ -18,7 +18,8 @@ answer = hex (codes "0245000028000000004006468f0a010004c63364091f901770000000070
 abbrev pub answer_left : List ℕ
 answer_left = hex (codes "02450000280000000040068e89c000020ac6336409005017700000000700000002501220008bc20000")
 
--- the reply wrapped by an agent's machine, for another machine, from another address than the mux's, for a foreign machine
+-- the reply wrapped by an agent's machine, for another machine, from another address than the mux's, for a foreign
+-- machine
 abbrev pub reply_by_agent : List ℕ
 reply_by_agent = hex
     (codes "024500003200004000400426be0a0100050a0100044500001e0002000038119688c6336407c000020a00350400000a9f"

@@ -2,7 +2,8 @@
 use Rattle.std.specs.Prelude.{ℕ, List, ◌++◌, codes}
 use Rattle.worked_run.specs.Hex.{hex}
 
--- from 10.1.0.4:5000 to 198.51.100.8:53, and from port 5001 to the first remote end; as they leave, from ports 1024 and 1025
+-- from 10.1.0.4:5000 to 198.51.100.8:53, and from port 5001 to the first remote end; as they leave, from ports 1024
+-- and 1025
 abbrev pub to_8 : List ℕ
 to_8 = hex (codes "024500001e000100004011468e0a010004c633640813880035000a4f736869")
 
@@ -32,7 +33,8 @@ ask_2 = hex (codes "01010800000000000000010a0100040000000000000002")
 abbrev pub ask_other : List ℕ
 ask_other = hex (codes "01010800000000000000010a0100050000000000000001")
 
--- lease 17 on the range from 1032 on; lease 1 for a foreign machine, on a range that may not be leased; lease 17 on the first range
+-- lease 17 on the range from 1032 on; lease 1 for a foreign machine, on a range that may not be leased; lease 17 on
+-- the first range
 abbrev pub grant_17 : List ℕ
 grant_17 = hex (codes "01010900000000000000010a01000400000000000000010000000000000011c000020a0408")
 

@@ -19,3 +19,8 @@ pub mod Arriving
 pub mod MuxRun
 pub mod MuxOrders
 pub mod MuxPackets
+pub mod Leasing
+pub mod Delivering
+pub mod AgentRun
+pub mod AgentLeases
+pub mod AgentPackets

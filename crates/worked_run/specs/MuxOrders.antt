@@ -107,7 +107,8 @@ pub record Unprograms : Type 0 where
   pub unknown : step (told fresh orders.unprogram_1) ≡ keeps orders.epoch_5 (answers orders.unprogrammed_1)
   pub late : step (told (told has_1 orders.unprogram_1).state program) ≡ dropped (OldNumber 1)
 
--- Not this mux's: a machine that doesn't leave from the VIP, a range that may not be leased. The epoch is raised before.
+-- Not this mux's: a machine that doesn't leave from the VIP, a range that may not be leased. The epoch is raised
+-- before.
 pub record NotIts : Type 0 where
   pub machine : step (told fresh orders.program_outside) ≡ keeps orders.epoch_5 (dropped NotMine)
   pub no_vip : step (told fresh orders.program_no_vip) ≡ keeps orders.epoch_5 (dropped NotMine)

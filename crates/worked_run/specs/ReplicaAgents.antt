@@ -9,7 +9,8 @@ use Rattle.vip_config.specs.declared.parts.ConfigParts.{ConfigParts}
 use Rattle.node_spec.specs.Turns.{Turn}
 use Rattle.node_spec.specs.Steps.{step_of}
 use Rattle.manager_spec.specs.Manager.{Manager}
-use Rattle.worked_run.specs.Configs.{run_config, two_each, one_range, one_row, leasing, machine, other_machine, mux_at, agent_at, other_agent_at}
+use Rattle.worked_run.specs.Configs.{run_config, two_each, one_range, one_row, leasing, machine, other_machine}
+use Rattle.worked_run.specs.Configs.{mux_at, agent_at, other_agent_at}
 use Rattle.worked_run.specs.Run as run
 use Rattle.worked_run.specs.Muxes as muxes
 use Rattle.worked_run.specs.Asks as asks

@@ -20,7 +20,8 @@ use Rattle.worked_run.specs.Asks as asks
 use Rattle.wire_core.specs.declared.act.Act.TheVariants as act
 use Rattle.worked_run.specs.Steps.{sent, all_five, four_others, to_each, sends, keeps, does, dropped}
 use Rattle.worked_run.specs.Primaries.{primary, agreed, stage_of, reserve_1, granted_1, release_1, up, reserve_act}
-use Rattle.worked_run.specs.Replicas.{of, hears, ticks, opened, elected, hears_ask, two_accepted, accepted_by, reserves, grants}
+use Rattle.worked_run.specs.Replicas.{of, hears, ticks, opened, elected, hears_ask, two_accepted, accepted_by}
+use Rattle.worked_run.specs.Replicas.{reserves, grants}
 use Rattle.worked_run.specs.ReplicaLeading.{at_time}
 
 -- what mux 0 says, under the run's configuration
@@ -181,12 +182,12 @@ pub record Proposes : Type 0 where
 pub record Orders : Type 0 where
   pub silent : of (accepted_by (at_time 7000 two_accepted).state 2)
       ≡ keeps run.learned_reserve (does (reserve_act 1 1024 machine ∷ [])
-        (sends (to_each four_others run.chosen_reserve ++ sent mux_at run.program ∷ [])))
+      (sends (to_each four_others run.chosen_reserve ++ sent mux_at run.program ∷ [])))
   pub ended : of (agreed run_config
       (of_mux run.hello (record elected { queue = Reserve 0 1 machine 1 ∷ Release 1 ∷ [] })).state run.accepted_reserve)
       ≡ keeps asks.learned_both (does (reserve_act 1 1024 machine ∷ act.Free 1 ∷ [])
-        (sends (to_each four_others asks.chosen_both
-          ++ sent agent_at asks.returned_1 ∷ sent mux_at muxes.unprogram ∷ [])))
+      (sends (to_each four_others asks.chosen_both
+      ++ sent agent_at asks.returned_1 ∷ sent mux_at muxes.unprogram ∷ [])))
   pub next : (of
       (agreed run_config (hears run_config hears_ask.state agent_at asks.up_2).state run.accepted_reserve)).sends
       ≡ to_each four_others run.chosen_reserve ++ sent mux_at run.program ∷ to_each all_five asks.accept_up_2

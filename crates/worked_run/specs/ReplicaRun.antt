@@ -7,8 +7,10 @@ use Rattle.wire_core.specs.declared.cause.DropCause.TheVariants.{Late}
 use Rattle.worked_run.specs.Configs.{machine, vip, replica_at, mux_at, agent_at}
 use Rattle.worked_run.specs.Run as run
 use Rattle.worked_run.specs.Steps.{sent, all_five, four_others, to_each, sends, keeps, does, dropped, each_is}
-use Rattle.worked_run.specs.Replicas.{of, steps, hears_hello, campaigns, hears_prepare, promised_by, elected, hears_ask, hears_accept, accepted_by, reserves}
-use Rattle.worked_run.specs.Replicas.{hears_chosen, hears_programmed, hears_accept_granted, granted_accepted_by, grants, hears_chosen_granted}
+use Rattle.worked_run.specs.Replicas.{of, steps, hears_hello, campaigns, hears_prepare, promised_by, elected}
+use Rattle.worked_run.specs.Replicas.{hears_ask, hears_accept, accepted_by, reserves}
+use Rattle.worked_run.specs.Replicas.{hears_chosen, hears_programmed, hears_accept_granted, granted_accepted_by}
+use Rattle.worked_run.specs.Replicas.{grants, hears_chosen_granted}
 
 -- From the first tick to an elected primary.
 pub record Elects : Type 0 where

@@ -8,7 +8,8 @@ use Rattle.worked_run.specs.Run as run
 use Rattle.worked_run.specs.Ballots as ballots
 use Rattle.worked_run.specs.Steps.{sent, sends, keeps, does, dropped}
 use Rattle.worked_run.specs.Primaries.{stage_of, reserve_act}
-use Rattle.worked_run.specs.Replicas.{of, opened, hears_prepare, elected, hears_ask, hears_accept, reserves, hears_chosen}
+use Rattle.worked_run.specs.Replicas.{of, opened, hears_prepare, elected, hears_ask, hears_accept, reserves}
+use Rattle.worked_run.specs.Replicas.{hears_chosen}
 use Rattle.worked_run.specs.ReplicaLeading.{from}
 
 -- Accept: refused below the promise, Late where the slot has its value, a fetch where it is ahead of the log, and

@@ -9,7 +9,8 @@ use Rattle.node_spec.specs.Steps.{step_of}
 use Rattle.manager_spec.specs.Manager.{Manager, opened_manager}
 use Rattle.manager_spec.specs.ManagerTable.{manager_step}
 use Rattle.worked_run.specs.Configs.{run_config, replica_at, mux_at, agent_at}
-use Rattle.worked_run.specs.Run.{hello, prepare, promise, ask, accept_reserve, accepted_reserve, chosen_reserve, programmed, accept_granted, accepted_granted, chosen_granted}
+use Rattle.worked_run.specs.Run.{hello, prepare, promise, ask, accept_reserve, accepted_reserve, chosen_reserve}
+use Rattle.worked_run.specs.Run.{programmed, accept_granted, accepted_granted, chosen_granted}
 
 -- ---- a replica by what it hears
 

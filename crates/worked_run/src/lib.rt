@@ -18,10 +18,15 @@
 //! | the mux: its lines of the run | `MuxRun` |
 //! | the mux: commands, and what isn't taken | `MuxOrders` with `Orders` |
 //! | the mux: packets and flows | `MuxPackets` with `Arriving` |
+//! | the host agent: its lines of the run | `AgentRun` |
+//! | the host agent: leases, asks and the clock | `AgentLeases` with `Leasing` |
+//! | the host agent: packets from machines and to them | `AgentPackets` with `Delivering` |
 #![tactic(auto)]
 
+mod agents;
 mod managers;
 mod muxes;
 
+pub use agents::{agent_run, leases_rows, machines_rows};
 pub use managers::{agents_rows, agreement_rows, managers_run, muxes_rows, untaken_rows};
 pub use muxes::{mux_run, orders_rows, packets_rows};
