@@ -65,7 +65,8 @@ agrees_is cfg r n o index acceptor own = record {
   mails = own_mails r.index o.sends own;
 }
 
-pub hears_is : (cfg : ConfigParts) (r : Manager) (t : Turn Manager) (o : Out) → IsStep cfg r t o → IsStep cfg r (hears t) o
+pub hears_is : (cfg : ConfigParts) (r : Manager) (t : Turn Manager) (o : Out) → IsStep cfg r t o
+    → IsStep cfg r (hears t) o
 hears_is cfg r t o h = record {
   index = h.index;
   acceptor = h.acceptor;
@@ -112,7 +113,8 @@ says_is cfg r xs mute = record {
 }
 
 -- the step that it is, by another name
-pub same_step : (cfg : ConfigParts) (r : Manager) (t : Turn Manager) (o p : Out) → o ≡ p → IsStep cfg r t o → IsStep cfg r t p
+pub same_step : (cfg : ConfigParts) (r : Manager) (t : Turn Manager) (o p : Out) → o ≡ p → IsStep cfg r t o
+    → IsStep cfg r t p
 same_step cfg r t o p e h = subst (IsStep cfg r t) e h
 
 -- ---- who leads
@@ -145,12 +147,14 @@ late_leaves l from c length vote own = by_if Keeps
         (λ _. arrived (if own == t.longest then value_of t.best else None))
 
 promise_by : (cfg : ConfigParts) (r : Manager) (l : LeaderState) (s : LeadStep)
-    → (is_late_promise s ≡ true → l ≡ r.memory.leader) → IsOwn r.index (promise_led r.index (reach r.acceptor) r.memory l s)
+    → (is_late_promise s ≡ true → l ≡ r.memory.leader)
+    → IsOwn r.index (promise_led r.index (reach r.acceptor) r.memory l s)
     → IsStep cfg r
     (if is_late_promise s then drop_turn r Late else agrees cfg r (promise_led r.index (reach r.acceptor) r.memory l s))
     (promise_led r.index (reach r.acceptor) r.memory l s)
 promise_by cfg r l lead.Late same own =
-    same_step cfg r _ _ _ (ap (λ (x : LeaderState). still (with_leader r.memory x)) (sym (same refl))) (drops_is cfg r Late)
+    same_step cfg r _ _ _ (ap (λ (x : LeaderState). still (with_leader r.memory x)) (sym (same refl)))
+    (drops_is cfg r Late)
 promise_by cfg r l lead.More same own = agrees_is cfg r r _ refl refl own
 promise_by cfg r l (lead.Catch from slot) same own = agrees_is cfg r r _ refl refl own
 promise_by cfg r l lead.Inherit same own = agrees_is cfg r r _ refl refl own
@@ -168,17 +172,20 @@ promise_is cfg r from c length vote value =
 
 -- a Refuse that counts for nothing
 refused_late : (m : Memory) (c p : ℕ)
-    → (not (is_follower m.leader.stage) && (m.leader.ballot == c) && nat_lt c p) ≡ false → paxos.on_refuse m c p ≡ still m
+    → (not (is_follower m.leader.stage) && (m.leader.ballot == c) && nat_lt c p) ≡ false
+    → paxos.on_refuse m c p ≡ still m
 unfolding paxos.on_refuse
 refused_late m c p e = rw e refl
 
 pub refuse_is : (cfg : ConfigParts) (r : Manager) (from c p : ℕ)
     → IsStep cfg r (on_refuse cfg r c p) (on_message r.index r.acceptor r.memory from (body.Refuse c p))
 unfolding on_refuse
-refuse_is cfg r from c p = by (not (is_follower r.memory.leader.stage) && (r.memory.leader.ballot == c) && nat_lt c p) refl
+refuse_is cfg r from c p =
+    by (not (is_follower r.memory.leader.stage) && (r.memory.leader.ballot == c) && nat_lt c p) refl
   where
     by : (b : Bool) → (not (is_follower r.memory.leader.stage) && (r.memory.leader.ballot == c) && nat_lt c p) ≡ b
-        → IsStep cfg r (if b then agrees cfg (record r { heard = r.time }) (paxos.on_refuse r.memory c p) else drop_turn r Late)
+        → IsStep cfg r (if b then agrees cfg (record r { heard = r.time }) (paxos.on_refuse r.memory c p)
+        else drop_turn r Late)
         (paxos.on_refuse r.memory c p)
     by true e = agrees_is cfg r (record r { heard = r.time }) _ refl refl
         (message_own r.index r.acceptor r.memory from (body.Refuse c p))
@@ -242,7 +249,8 @@ fetch_is cfg r from slot = by (nat_lt slot (reach r.acceptor)) refl
         (on_fetch r.index r.acceptor r.memory from slot)
     by true e = agrees_is cfg r r _ refl refl (message_own r.index r.acceptor r.memory from (body.Fetch slot))
     by false e = same_step cfg r _ _ _
-        (sym (ap (paxos.fetched r.index r.memory from slot) (slice_get_past r.acceptor.log slot (past e)))) (drops_is cfg r Late)
+        (sym (ap (paxos.fetched r.index r.memory from slot) (slice_get_past r.acceptor.log slot (past e))))
+        (drops_is cfg r Late)
 
 first_none : {X : Type 0} (e : Option X) → first_of e None ≡ e
 first_none None = refl
@@ -294,7 +302,8 @@ unfolding paxos.on_accepted
 not_next r from c slot e = rw e refl
 
 pub accepted_is : (cfg : ConfigParts) (r : Manager) (from c slot : ℕ)
-    → IsStep cfg r (on_accepted cfg r from c slot).turn (on_message r.index r.acceptor r.memory from (body.Accepted c slot))
+    → IsStep cfg r (on_accepted cfg r from c slot).turn
+    (on_message r.index r.acceptor r.memory from (body.Accepted c slot))
 unfolding on_accepted
 accepted_is cfg r from c slot = by (is_next r.acceptor slot) refl
   where
@@ -351,7 +360,8 @@ runs_is cfg r = by (is_primary r.memory.leader.stage)
     Runs : Out → Type 0
     Runs o = IsOwn r.index o → IsStep cfg r (runs_for cfg r o) o
 
-    by : (b : Bool) → IsStep cfg r (runs_for cfg r (on_campaign r.index r.acceptor r.memory)) (on_campaign r.index r.acceptor r.memory)
+    by : (b : Bool) → IsStep cfg r (runs_for cfg r (on_campaign r.index r.acceptor r.memory))
+        (on_campaign r.index r.acceptor r.memory)
     by b = by_if Runs (is_primary r.memory.leader.stage) (λ _ own. quiet_is cfg r r r.memory refl refl refl)
         (λ _. runs_by cfg r (campaign r.memory.leader (max r.acceptor.promise r.memory.seen) r.index).0
         (campaign r.memory.leader (max r.acceptor.promise r.memory.seen) r.index).1)
@@ -368,4 +378,11 @@ tick_is cfg r now =
     (nat_le cfg.timers.lead_silent (max r.time now - r.heard))
     {x = stops (runs_for cfg n (on_campaign n.index n.acceptor n.memory))} {y = stops (quiet n)}
     (λ _. runs_is cfg n) (λ _. quiet_is cfg n n n.memory refl refl refl)) in
-    record { index = h.index; acceptor = h.acceptor; memory = h.memory; entry = h.entry; acts = h.acts; mails = h.mails }
+    record {
+      index = h.index;
+      acceptor = h.acceptor;
+      memory = h.memory;
+      entry = h.entry;
+      acts = h.acts;
+      mails = h.mails;
+    }

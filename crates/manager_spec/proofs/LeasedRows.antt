@@ -62,7 +62,8 @@ unfolding on_ack
 ack_is cfg r with_one mux epoch boot n = by_if (Stays cfg r)
     (is_primary r.memory.leader.stage && (r.memory.leader.ballot == epoch) && is_some (row_at (leases cfg r).rows n))
     {y = stops (drop_turn r Late)}
-    (λ _. quiet_is cfg r (record (hear_mux r mux boot) { acks = set_marks r.acks n (with_one (marks_at r.acks n) mux boot) })
+    (λ _. quiet_is cfg r (record (hear_mux r mux boot)
+    { acks = set_marks r.acks n (with_one (marks_at r.acks n) mux boot) })
     r.memory refl refl refl)
     (λ _. drops_is cfg r Late)
 
@@ -70,7 +71,8 @@ ack_is cfg r with_one mux epoch boot n = by_if (Stays cfg r)
 
 enqueue_is : (cfg : ConfigParts) (r : Manager) (c : LogCommand) → Stays cfg r (enqueue r c)
 unfolding enqueue
-enqueue_is cfg r c = by_if (Stays cfg r) (is_waiting r c) {x = stops (drop_turn r Waiting)} (λ _. drops_is cfg r Waiting)
+enqueue_is cfg r c = by_if (Stays cfg r) (is_waiting r c) {x = stops (drop_turn r Waiting)}
+    (λ _. drops_is cfg r Waiting)
     (λ _. by_if (Stays cfg r) (nat_le most_queued (length r.queue)) {x = stops (drop_turn r QueueFull)}
     (λ _. drops_is cfg r QueueFull)
     (λ _. quiet_is cfg r (record r { queue = r.queue ++ c ∷ [] }) r.memory refl refl refl))

@@ -23,7 +23,8 @@ use Rattle.manager_spec.proofs.Choices.{by_if}
 
 -- ---- replicas and the clock
 
-pub replica_leaves : (cfg : ConfigParts) (r : Manager) (from : ℕ) (m : Message) → LeavesMuxes r (from_replica cfg r from m).turn
+pub replica_leaves : (cfg : ConfigParts) (r : Manager) (from : ℕ) (m : Message)
+    → LeavesMuxes r (from_replica cfg r from m).turn
 unfolding on_prepare on_promise on_accept on_accepted completes on_refuse on_chosen on_fetched on_lead agrees
 replica_leaves cfg r from m = grind arith
 
@@ -56,7 +57,8 @@ ask_leaves : (cfg : ConfigParts) (r : Manager) (agent boot : ℕ) (machine : Ip4
 unfolding on_ask
 ask_leaves cfg r agent boot machine seq = grind (arith, after_leaves)
 
-return_leaves : (cfg : ConfigParts) (r : Manager) (agent boot n : ℕ) → LeavesAllButQueue r (on_return cfg r agent boot n).turn
+return_leaves : (cfg : ConfigParts) (r : Manager) (agent boot n : ℕ)
+    → LeavesAllButQueue r (on_return cfg r agent boot n).turn
 unfolding on_return
 return_leaves cfg r agent boot n = grind (arith, enqueue_leaves)
 
@@ -83,7 +85,8 @@ quiet_leaves r = record {
   notes = refl;
 }
 
-offer_leaves : (cfg : ConfigParts) (r : Manager) (v rest : List LogCommand) → may_propose r.acceptor r.memory.leader ≡ true
+offer_leaves : (cfg : ConfigParts) (r : Manager) (v rest : List LogCommand)
+    → may_propose r.acceptor r.memory.leader ≡ true
     → LeavesAllButOffer r (agrees cfg (record r { queue = rest }) (on_offer r.index r.acceptor r.memory v))
 unfolding agrees on_offer effects_of
 offer_leaves cfg r v rest e = rw e (record {

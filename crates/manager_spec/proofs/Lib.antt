@@ -6,3 +6,4 @@ pub mod AgreedRows
 pub mod LeasedRows
 pub mod Leaves
 pub mod Refusals
+pub mod Resting

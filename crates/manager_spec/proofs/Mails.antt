@@ -81,9 +81,11 @@ each_take P (suc n) (x ∷ xs) h = (h.0, each_take P n xs h.1)
 new_mute : (me epoch : ℕ) (peers : List Peer) (o : Option Row) → Each (IsMute me) (program_new epoch peers o)
 new_mute me epoch peers None = tt
 new_mute me epoch peers (Some row) =
-    by_if (Each (IsMute me)) (is_being row.phase) (λ _. each_map (IsMute me) (program epoch row) (λ p. refl) peers) (λ _. tt)
+    by_if (Each (IsMute me)) (is_being row.phase) (λ _. each_map (IsMute me) (program epoch row) (λ p. refl) peers)
+    (λ _. tt)
 
-denied_mute : (me : ℕ) (o : Option ℕ) (boot : ℕ) (machine : Rattle.wire_core.specs.declared.address.Ip4.Ip4) (seq reason number : ℕ)
+denied_mute : (me : ℕ) (o : Option ℕ) (boot : ℕ) (machine : Rattle.wire_core.specs.declared.address.Ip4.Ip4)
+    (seq reason number : ℕ)
     → Each (IsMute me) (denied o boot machine seq reason number)
 denied_mute me None boot machine seq reason number = tt
 denied_mute me (Some agent) boot machine seq reason number = (refl, tt)

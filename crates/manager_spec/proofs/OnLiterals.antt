@@ -12,7 +12,7 @@ use Rattle.manager_spec.specs.Voting.{on_accept, completes, on_accepted, on_chos
 
 -- what an answer unfolds
 unfoldable pub manager_on_literals : ⊤
-unfolding enqueue ask_after on_ask on_return on_agent_up on_tick on_prepare on_promise on_refuse on_lead opened_manager
-    leases_of effects_of agrees manager_hears manager_half manager_step on_hello on_mux_refuse on_ack orders_of
-    after_effects push due propose whole on_accept completes on_accepted on_chosen on_fetched
+unfolding enqueue ask_after on_ask on_return on_agent_up on_tick on_prepare on_promise on_refuse on_lead
+    opened_manager leases_of effects_of agrees manager_hears manager_half manager_step on_hello on_mux_refuse on_ack
+    orders_of after_effects push due propose whole on_accept completes on_accepted on_chosen on_fetched
 manager_on_literals = tt

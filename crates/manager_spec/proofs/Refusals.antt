@@ -60,7 +60,8 @@ prepare_drops : (cfg : ConfigParts) (r : Manager) (from c : ℕ) → Of r (on_pr
 unfolding on_prepare
 prepare_drops cfg r from c = heard_of cfg r r _
 
-promise_drops : (cfg : ConfigParts) (r : Manager) (from c length : ℕ) (vote : Cast) → Of r (on_promise cfg r from c length vote)
+promise_drops : (cfg : ConfigParts) (r : Manager) (from c length : ℕ) (vote : Cast)
+    → Of r (on_promise cfg r from c length vote)
 unfolding on_promise
 promise_drops cfg r from c length vote =
     by_if (Of r) (is_late_promise (lead_promise r.memory.leader from c length vote (reach r.acceptor)).1)
@@ -78,7 +79,8 @@ lead_drops cfg r from c length = agreed cfg r _ _
 
 accept_drops : (cfg : ConfigParts) (r : Manager) (from c slot : ℕ) (v : Value) → Of r (on_accept cfg r from c slot v)
 unfolding on_accept
-accept_drops cfg r from c slot v = by_if (Of r) (is_late_accept (accept_step r.acceptor c slot v)) {x = drop_turn r Late}
+accept_drops cfg r from c slot v = by_if (Of r) (is_late_accept (accept_step r.acceptor c slot v))
+    {x = drop_turn r Late}
     (λ _. drops r Late) (λ _. heard_of cfg r r _)
 
 completed : (cfg : ConfigParts) (r : Manager) (o : Out) → DropsOrNot r (goes_on (completes cfg r o))
@@ -128,7 +130,8 @@ unfolding on_hello
 hello_drops cfg r mux boot epoch = by_if (DropsOrNot r) (nat_lt boot (peer r mux).boot) {x = stops (drop_turn r Late)}
     (λ _. drops r Late) (λ _. inl refl)
 
-refusal_drops : (cfg : ConfigParts) (r : Manager) (mux boot epoch : ℕ) → DropsOrNot r (on_mux_refuse cfg r mux boot epoch)
+refusal_drops : (cfg : ConfigParts) (r : Manager) (mux boot epoch : ℕ)
+    → DropsOrNot r (on_mux_refuse cfg r mux boot epoch)
 unfolding on_mux_refuse
 refusal_drops cfg r mux boot epoch = inl refl
 
@@ -151,7 +154,8 @@ grant_drops : (r : Manager) (o : Option Row) → DropsOrNot r (grant_again r o)
 grant_drops r None = drops r Late
 grant_drops r (Some row) = by_if (DropsOrNot r) (is_being row.phase) {x = stops (drop_turn r Waiting)}
     (λ _. drops r Waiting)
-    (λ _. by_if (DropsOrNot r) (is_freeing row.phase) {x = stops (drop_turn r Late)} (λ _. drops r Late) (λ _. inl refl))
+    (λ _. by_if (DropsOrNot r) (is_freeing row.phase) {x = stops (drop_turn r Late)} (λ _. drops r Late)
+    (λ _. inl refl))
 
 again_drops : (cfg : ConfigParts) (r : Manager) (agent boot : ℕ) (machine : Ip4) (seq : ℕ) (o : Outcome)
     → DropsOrNot r (answer_again cfg r agent boot machine seq o)
@@ -235,7 +239,8 @@ agent_drops cfg r agent (message.Return boot n) = return_drops cfg r agent boot 
 agent_drops cfg r agent (message.AgentUp boot) = up_drops cfg r agent boot
 agent_drops cfg r agent _ = drops r WrongRole
 
-message_drops : (cfg : ConfigParts) (r : Manager) (from : NodeId) (m : Message) → DropsOrNot r (manager_hears cfg r from m)
+message_drops : (cfg : ConfigParts) (r : Manager) (from : NodeId) (m : Message)
+    → DropsOrNot r (manager_hears cfg r from m)
 unfolding manager_hears
 message_drops cfg r (Replica from) m = replica_drops cfg r from m
 message_drops cfg r (Mux from) m = mux_drops cfg r from m

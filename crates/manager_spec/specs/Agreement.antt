@@ -63,7 +63,8 @@ replica_step r from m = body_step r from (body_in m)
 
 -- of a mux: the epoch that it tells was heard of, where it isn't of an earlier boot
 abbrev pub mux_memory : Manager → ℕ → Message → Memory
-mux_memory r mux (message.MuxHello boot epoch) = if nat_lt boot (peer r mux).boot then r.memory else see_epoch r.memory epoch
+mux_memory r mux (message.MuxHello boot epoch) =
+    if nat_lt boot (peer r mux).boot then r.memory else see_epoch r.memory epoch
 mux_memory r mux (message.MuxRefuse epoch boot kept) = see_epoch r.memory kept
 mux_memory r mux _ = r.memory
 
@@ -93,8 +94,8 @@ proposal_step cfg r =
 
 -- ---- a turn as a step
 
--- A turn is this step of the agreement: its entry, its memory and its messages are the step's; the log follows the entry,
--- and the acts are those of what was learned.
+-- A turn is this step of the agreement: its entry, its memory and its messages are the step's; the log follows the
+-- entry, and the acts are those of what was learned.
 pub record IsStep (cfg : ConfigParts) (r : Manager) (t : Turn Manager) (o : Out) : Type 0 where
   pub index : t.state.index ≡ r.index
   pub acceptor : t.state.acceptor ≡ kept r.acceptor o.entry

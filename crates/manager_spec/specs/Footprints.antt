@@ -1,8 +1,9 @@
 -- What each row leaves as it was.
-use Rattle.std.specs.Prelude.{◌≡◌, ◌⊎◌, [], None}
+use Rattle.std.specs.Prelude.{true, ◌≡◌, ◌⊎◌, [], None}
 use Rattle.wire_core.specs.Members.{Each}
 use Rattle.wire_core.specs.declared.cause.DropCause.{DropCause}
 use Rattle.wire_core.specs.declared.node.NodeId.TheVariants.{Agent}
+use Rattle.paxos_spec.specs.Leader.{is_follower}
 use Rattle.node_spec.specs.Sends.{Place, Send, ToNode}
 use Rattle.node_spec.specs.Turns.{Turn}
 use Rattle.manager_spec.specs.Manager.{Manager}
@@ -51,3 +52,7 @@ pub record LeavesAllButOffer (r : Manager) (t : Turn Manager) : Type 0 where
   pub entry : t.entry ≡ None
   pub acts : t.acts ≡ []
   pub notes : t.notes ≡ []
+
+-- A follower has no acknowledgements and no queue.
+abbrev pub Rests : Manager → Type 0
+Rests r = is_follower r.memory.leader.stage ≡ true → (r.acks ≡ []) × (r.queue ≡ [])

@@ -1,8 +1,8 @@
 //! A replica of the managers: what it keeps, and what each input makes it do.
 //!
-//! A row of this table is a step of the replicated log's replica, as `paxos_spec` has it, and what leasing adds: the acts of
-//! what was learned, the orders to muxes and agents, and the proposal. So what is proved of every list of such steps is so of
-//! managers.
+//! A row of this table is a step of the replicated log's replica, as `paxos_spec` has it, and what leasing adds: the
+//! acts of what was learned, the orders to muxes and agents, and the proposal. So what is proved of every list of such
+//! steps is so of managers.
 //!
 //! | subject | file of `specs/` |
 //! |---|---|
@@ -19,14 +19,14 @@
 //! | which step of the agreement a row is | `Agreement` |
 //! | what each row leaves as it was | `Footprints` |
 //!
-//! That it is so of every row say [`steps`], [`drops`] and [`footprints`]. The bundle `proofs/OnLiterals` opens the words of this crate
-//! where a row is computed.
+//! That it is so of every row say [`steps`], [`drops`], [`footprints`] and [`followers_rest`]. The bundle
+//! `proofs/OnLiterals` opens the words of this crate where a row is computed.
 #![tactic(auto)]
 
 mod laws;
 mod marks;
 mod peer;
 
-pub use laws::{drops, footprints, steps};
+pub use laws::{drops, followers_rest, footprints, steps};
 pub use marks::Marks;
 pub use peer::Peer;

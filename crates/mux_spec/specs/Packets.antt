@@ -1,5 +1,6 @@
 -- Packets from outside: to which machine each goes, wrapped.
-use Rattle.std.specs.Prelude.{ℕ, ◌%◌, Bool, not, ◌&&◌, List, [], ◌∷◌, ◌++◌, length, slice_get, Option, Some, None, unwrap_or, Result, Ok, Err, if◌then◌else◌}
+use Rattle.std.specs.Prelude.{ℕ, ◌%◌, Bool, not, ◌&&◌, List, [], ◌∷◌, ◌++◌, length, slice_get, Option, Some, None}
+use Rattle.std.specs.Prelude.{unwrap_or, Result, Ok, Err, if◌then◌else◌}
 use Rattle.wire_core.specs.declared.address.Ip4.{Ip4}
 use Rattle.wire_core.specs.declared.address.Socket.{Socket}
 use Rattle.wire_core.specs.declared.cause.DropCause.{DropCause}
@@ -134,7 +135,8 @@ passing c m sender bytes = from_who c (own_address c m.index) m.rows m.time m.fl
 
 -- the mux that has the flow's hash
 abbrev pub asked_mux : ConfigParts → RedirectAsk → ℕ
-asked_mux c a = hash (record { src = a.src; dst = a.dst; sport = a.sport; dport = a.dport; proto = Tcp }) % length c.muxes
+asked_mux c a =
+    hash (record { src = a.src; dst = a.dst; sport = a.sport; dport = a.dport; proto = Tcp }) % length c.muxes
 
 -- the question to the other mux
 abbrev pub asks : ConfigParts → Option RedirectAsk → List Send

@@ -9,6 +9,6 @@ use Rattle.node_spec.specs.Turns.{each}
 
 -- what an answer unfolds
 unfoldable pub node_on_literals : ⊤
-unfolding boot_of epoch_of packet_cause admitted heard should_redirect accept_redirect datagram outgoing body_of onto turned
-    tried each
+unfolding boot_of epoch_of packet_cause admitted heard should_redirect accept_redirect datagram outgoing body_of
+    onto turned tried each
 node_on_literals = tt

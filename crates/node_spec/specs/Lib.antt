@@ -1,4 +1,3 @@
-pub mod Same
 pub mod Sends
 pub mod Turns
 pub mod Steps

@@ -2,7 +2,7 @@
 use Rattle.std.specs.Prelude.{ℕ, List, [], ◌∷◌, map, filter, not, ◌==◌, Option, Some, None}
 use Rattle.wire_core.specs.declared.address.Ip4.{Ip4}
 use Rattle.wire_core.specs.declared.node.NodeId.{NodeId}
-use Rattle.wire_core.specs.declared.node.NodeId.TheVariants.{Replica, Mux, Agent}
+use Rattle.wire_core.specs.declared.node.NodeId.TheVariants.{Replica, Agent}
 use Rattle.control_msg.specs.declared.message.Message.{Message}
 use Rattle.paxos_spec.specs.Five.{five}
 

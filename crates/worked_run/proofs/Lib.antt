@@ -1,0 +1,13 @@
+pub mod OnLiterals
+pub mod AgentsComputed
+pub mod DatagramsComputed
+pub mod LeadingComputed
+pub mod MuxesComputed
+pub mod RunComputed
+pub mod VotingComputed
+pub mod MuxRunComputed
+pub mod OrdersComputed
+pub mod PacketsComputed
+pub mod AgentRunComputed
+pub mod LeasesComputed
+pub mod MachinesComputed

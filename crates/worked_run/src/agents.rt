@@ -1,0 +1,31 @@
+ghost use Rattle.worked_run.specs.AgentLeases.{Answered, AsksAgain, Denies, GrantsTaken, Holds, Idles};
+ghost use Rattle.worked_run.specs.AgentPackets.{Endpoints, ForAnother, Ports, Redirects, Resets, Undelivered, Unsent};
+ghost use Rattle.worked_run.specs.AgentPackets.{Untaken};
+ghost use Rattle.worked_run.specs.AgentRun.{AgentLines};
+
+/// Each step of the host agent in the run: the acts, the notes and the datagrams of its line.
+pub fn agent_run()
+    ensures { AgentLines }
+{}
+
+/// What an agent holds, asks and gives back, and what it makes of the replicas' answers.
+pub fn leases_rows()
+    ensures holds { Holds }
+    ensures denies { Denies }
+    ensures grants { GrantsTaken }
+    ensures idles { Idles }
+    ensures asks_again { AsksAgain }
+    ensures answered { Answered }
+{}
+
+/// What becomes of packets from its machines and to them.
+pub fn machines_rows()
+    ensures ports { Ports }
+    ensures unsent { Unsent }
+    ensures undelivered { Undelivered }
+    ensures for_another { ForAnother }
+    ensures resets { Resets }
+    ensures endpoints { Endpoints }
+    ensures redirects { Redirects }
+    ensures untaken { Untaken }
+{}
