@@ -28,7 +28,6 @@ mod replay;
 mod state;
 
 pub use connections::{Connection, Connections};
-pub use full_leases::{FullLeases, RemoteEnd};
 pub use laws::always_safe;
 pub use line::Line;
 pub use replay::{PlainFault, plain_lines};
