@@ -1,6 +1,6 @@
 -- Full leases while marks rise and connections open.
-use Rattle.std.proofs.Common.{◌≡◌, ◌∙◌, ℕ, ◌<◌, ◌≤◌, Bool, true, false, ◌==◌, List, Option, Some, None, Result, Ok, Err, find, refl, sym, ap, subst, arith}
-use Rattle.std.specs.Prelude.{◌&&◌, cond, is_some, if◌then◌else◌, IfOk, OnOk, OnErr}
+use Rattle.std.proofs.Common.{◌≡◌, ◌∙◌, ℕ, Bool, true, false, List, Option, Some, None, Result, Ok, Err, find, refl, sym, ap, subst, arith}
+use Rattle.std.specs.Prelude.{cond, is_some, if◌then◌else◌, IfOk, OnOk, OnErr}
 use Rattle.std.specs.List.{flat_map}
 use Rattle.wire_core.specs.declared.address.Ip4.{Ip4}
 use Rattle.wire_core.specs.declared.cause.DropCause.{DropCause}
@@ -12,7 +12,6 @@ use Rattle.port_leases.specs.TableState.{TableState, onward, rows_of}
 use Rattle.plain_schedule.specs.declared.connections.Connection.{Connection}
 use Rattle.plain_schedule.specs.declared.full_leases.FullLeases.{FullLeases}
 use Rattle.plain_schedule.specs.declared.full_leases.RemoteEnd.{RemoteEnd}
-use Rattle.plain_schedule.specs.Connections.{same_proto}
 use Rattle.plain_schedule.specs.Packets.{eight, first_free, is_free, opens, with_private}
 use Rattle.plain_schedule.specs.Schedule.{Plain, start}
 use Rattle.plain_schedule.specs.FullLeases.{AreFull, end_of, plain, same_end, up_to}

@@ -1,6 +1,6 @@
 -- Full leases: they have no free port, a lease without one is full, and they stay full.
-use Rattle.std.proofs.Common.{◌≡◌, ◌≢◌, ◌∙◌, inl, inr, ℕ, ◌+◌, ◌*◌, ◌<◌, ◌≤◌, ◌%◌, Bool, true, false, ◌==◌, nat_lt, nat_le, List, [], ◌∷◌, ◌++◌, find, map, filter, Option, Some, None, refl, sym, ap, subst, arith}
-use Rattle.std.specs.Prelude.{◌&&◌, ◌||◌, min, cond, is_some, is_none, not, unwrap_or, if◌then◌else◌}
+use Rattle.std.proofs.Common.{◌≡◌, ◌≢◌, ◌∙◌, inl, inr, ℕ, ◌+◌, ◌<◌, ◌≤◌, ◌%◌, Bool, true, false, ◌==◌, nat_lt, List, [], ◌∷◌, ◌++◌, find, map, Option, Some, None, refl, sym, ap, subst, arith}
+use Rattle.std.specs.Prelude.{◌&&◌, ◌||◌, min, cond, is_some, is_none}
 use Rattle.std.specs.List.{flat_map, list_any}
 use Rattle.std.proofs.lemmas.Bool.Decides.{nat_tests}
 use Rattle.std.proofs.lemmas.List.Concat.{flat_map-cons}
@@ -16,7 +16,7 @@ use Rattle.lease_spec.specs.Table.{row_at}
 use Rattle.lease_spec.specs.Holders.{OwnRanges, GoesOn, SameLease}
 use Rattle.lease_spec.proofs.CauseLaws.{row_number}
 use Rattle.lease_spec.proofs.MemberLaws.{each_in, each_on, found_in, in_filter}
-use Rattle.port_leases.specs.TableState.{TableState, onward, rows_of}
+use Rattle.port_leases.specs.TableState.{onward, rows_of}
 use Rattle.plain_schedule.specs.declared.connections.Connection.{Connection}
 use Rattle.plain_schedule.specs.declared.full_leases.RemoteEnd.{RemoteEnd}
 use Rattle.plain_schedule.specs.Connections.{has_public, newest, same_key, standing}
@@ -26,10 +26,10 @@ use Rattle.plain_schedule.specs.Safety.{IsThrough}
 use Rattle.plain_schedule.specs.FullLeases.{AreFull, IsFull, bound, end_of, lease_of, public_at}
 use Rattle.plain_schedule.specs.Kept.{Sound, Stands}
 use Rattle.plain_schedule.proofs.FreePorts.{found_later}
-use Rattle.plain_schedule.proofs.KeyLaws.{both, number_is, number_same, address_is, key_is}
+use Rattle.plain_schedule.proofs.KeyLaws.{number_is, address_is, key_is}
 use Rattle.plain_schedule.proofs.ListLaws.{newest-more, newest_in, none_some, own_row, in_filter_back}
 use Rattle.plain_schedule.proofs.Kept.{rows, is_found, some_is, stood_at}
-use Rattle.plain_schedule.proofs.Openings.{IsNew, places_small, standing_some, row_fits, with_one}
+use Rattle.plain_schedule.proofs.Openings.{IsNew, places_small, row_fits, with_one}
 
 -- ---- a search that finds nothing
 

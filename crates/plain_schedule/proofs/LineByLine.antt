@@ -9,6 +9,10 @@ printed-printed : (a b : List ℕ) (r : Result (List ℕ) ℕ) → printed a (pr
 printed-printed a b (Ok text) = ap (λ (t : List ℕ). ok t) (sym (append_assoc a b text))
 printed-printed a b (Err n) = refl
 
+pub printed_none : (r : Result (List ℕ) ℕ) → printed [] r ≡ r
+printed_none (Ok text) = refl
+printed_none (Err n) = refl
+
 abbrev some : Plain × List ℕ → Option (Plain × List ℕ)
 some x = Some x
 

@@ -1,27 +1,21 @@
 -- Each moment of a plain schedule is safe.
-use Rattle.std.proofs.Common.{◌≡◌, ℕ, ◌+◌, ◌<◌, ◌≤◌, Bool, true, false, ◌==◌, nat_lt, nat_le, List, [], ◌∷◌, ◌++◌, length, Option, Some, None, Result, Ok, Err, refl, sym, ap, ◌∙◌, subst, arith}
+use Rattle.std.proofs.Common.{◌≡◌, ℕ, ◌+◌, ◌<◌, ◌≤◌, Bool, true, false, ◌==◌, nat_lt, nat_le, List, [], ◌∷◌, length, Option, Some, None, Result, Ok, Err, refl, sym, ap, ◌∙◌, subst, arith}
 use Rattle.std.specs.Prelude.{not, ◌||◌, cond, is_none, is_some}
-use Rattle.std.specs.List.{list_any}
 use Rattle.std.proofs.lemmas.Bool.Decides.{nat_tests}
 use Rattle.wire_core.specs.declared.address.Ip4.{Ip4}
 use Rattle.wire_core.specs.declared.cause.DropCause.{DropCause}
 use Rattle.wire_core.specs.declared.cause.DropCause.TheVariants.{TtlOut}
 use Rattle.wire_core.specs.declared.flow.FlowKey.{FlowKey}
-use Rattle.wire_core.specs.declared.rules.LeaseRules.{LeaseRules}
 use Rattle.wire_core.specs.declared.rules.MachineRule.{MachineRule}
-use Rattle.wire_core.specs.declared.rules.VipRule.{VipRule}
-use Rattle.wire_core.specs.Ranges.{allows}
 use Rattle.wire_core.specs.Flows.{reverse}
 use Rattle.wire_core.specs.Members.{In, Each}
-use Rattle.wire_core.specs.Commands.{LogCommand, Reserve, Release, Freed}
+use Rattle.wire_core.specs.Commands.{Reserve, Release, Freed}
 use Rattle.packet_spec.specs.declared.fault.PacketFault.{PacketFault}
 use Rattle.packet_spec.specs.Packets.{read_packet, key_of}
 use Rattle.lease_spec.specs.declared.row.Row.{Row}
 use Rattle.lease_spec.specs.Table.{row_at, rule_of, last_of}
-use Rattle.lease_spec.specs.Holders.{AllLeasable}
-use Rattle.lease_spec.proofs.HolderLaws.{slot_goes}
 use Rattle.lease_spec.proofs.MemberLaws.{each_in, by_if}
-use Rattle.port_leases.specs.TableState.{TableState, apply_slot, has_vip}
+use Rattle.port_leases.specs.TableState.{has_vip}
 use Rattle.plain_schedule.specs.declared.connections.Connection.{Connection}
 use Rattle.plain_schedule.specs.declared.line.Line.{Line}
 use Rattle.plain_schedule.specs.declared.line.Line.TheVariants.{Skip, Vip, Ask, Return, Packet, Reply}
@@ -30,7 +24,7 @@ use Rattle.address_text.specs.Fields.{parts}
 use Rattle.plain_schedule.specs.Lines.{line_of}
 use Rattle.plain_schedule.specs.Packets.{with_private, with_public, first_free, opens, takes, outgoing, or_none, incoming, sent}
 use Rattle.plain_schedule.specs.Schedule.{Plain, start, is_named, with_machine, seq_after, asked, ask_by, ask_line, returned, named, at_table, step, line_step, without_end}
-use Rattle.plain_schedule.specs.Safety.{moments_after, moments_from, moments_of_lines, IsLive, IsThrough, IsSafe, IsAlwaysSafe}
+use Rattle.plain_schedule.specs.Safety.{moments_after, moments_from, moments_of_lines, IsLive, IsSafe, IsAlwaysSafe}
 use Rattle.plain_schedule.proofs.KeyLaws.{key_is}
 use Rattle.plain_schedule.proofs.ListLaws.{newest_in}
 use Rattle.plain_schedule.specs.Kept.{Sound, Stands}

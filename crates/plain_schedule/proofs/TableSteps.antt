@@ -1,26 +1,22 @@
 -- What a slot, one VIP more and one machine more leave as it was: a sound state, and leases that are full.
-use Rattle.std.proofs.Common.{◌≡◌, ℕ, ◌+◌, ◌<◌, ◌≤◌, Bool, true, false, ◌==◌, List, [], ◌∷◌, ◌++◌, find, length, Option, Some, None, Result, Ok, Err, refl, sym, ap, subst, arith}
+use Rattle.std.proofs.Common.{◌≡◌, ℕ, ◌+◌, ◌≤◌, Bool, true, false, ◌==◌, List, [], ◌∷◌, ◌++◌, find, length, Some, Result, Ok, Err, refl, sym, ap, subst, arith}
 use Rattle.std.specs.Prelude.{◌&&◌, ◌||◌, cond, is_some, IfOk, OnErr}
 use Rattle.std.specs.List.{list_any}
 use Rattle.std.proofs.lemmas.List.{length-append}
 use Rattle.wire_core.specs.declared.address.Ip4.{Ip4}
-use Rattle.wire_core.specs.declared.rules.LeaseRules.{LeaseRules}
 use Rattle.wire_core.specs.declared.rules.MachineRule.{MachineRule}
 use Rattle.wire_core.specs.declared.rules.VipRule.{VipRule}
 use Rattle.wire_core.specs.Commands.{LogCommand}
-use Rattle.wire_core.specs.Members.{In, Each}
 use Rattle.wire_core.specs.Ranges.{allows}
 use Rattle.lease_spec.specs.declared.effect.Effect.{Effect}
-use Rattle.lease_spec.specs.Holders.{AllLeasable, GoesOn}
-use Rattle.lease_spec.specs.Table.{rule_of}
+use Rattle.lease_spec.specs.Holders.{GoesOn}
 use Rattle.lease_spec.proofs.HolderLaws.{slot_goes, stays}
 use Rattle.lease_spec.proofs.MemberLaws.{each_append, each_on}
 use Rattle.port_leases.specs.TableState.{TableState, apply_slot}
 use Rattle.plain_schedule.specs.declared.connections.Connection.{Connection}
 use Rattle.plain_schedule.specs.declared.full_leases.FullLeases.{FullLeases}
-use Rattle.plain_schedule.specs.declared.full_leases.RemoteEnd.{RemoteEnd}
 use Rattle.plain_schedule.specs.Schedule.{Plain, with_machine, with_vip}
-use Rattle.plain_schedule.specs.FullLeases.{AreFull, bound, plain, up_to}
+use Rattle.plain_schedule.specs.FullLeases.{bound, plain, up_to}
 use Rattle.plain_schedule.specs.Kept.{IsKept, IsSound, Keeps, Sound}
 use Rattle.plain_schedule.proofs.FullLaws.{full_table}
 use Rattle.plain_schedule.proofs.Kept.{rows, sound_rules, sound_table}

@@ -12,3 +12,8 @@ Fails NoMemory wanted = Unit {0}
 abbrev pub Prints : Result (String Global) PlainFault → Result (List ℕ) ℕ → Type 0
 Prints (Ok text) wanted = wanted ≡ Ok (string_bytes text)
 Prints (Err fault) wanted = Fails fault wanted
+
+-- the same where the text stands on an output
+abbrev pub Plays : Result (Unit {0}) PlainFault → List ℕ → Result (List ℕ) ℕ → Type 0
+Plays (Ok done) text wanted = wanted ≡ Ok text
+Plays (Err fault) text wanted = Fails fault wanted

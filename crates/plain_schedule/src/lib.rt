@@ -6,7 +6,7 @@
 //! |---|---|---|
 //! | `vip ADDRESS LOW HIGH` | the ports of a new VIP may be leased from now on | nothing |
 //! | `ask VIP MACHINE` | one slot of the log: the machine asks for a range | `leased N START` or `exhausted PLACE` |
-//! | `return N` | one slot: lease N is released and freed, its connections end | `freed N`, or `unknown N` where there is none |
+//! | `return N` | one slot: lease N is released and freed, and its connections end | `freed N`, or `unknown N` |
 //! | `packet HEX` | a machine sends a packet, through its connection or a new one | `public HEX`, or `drop CAUSE` |
 //! | `reply HEX` | a remote end answers with a packet | `machine ADDRESS HEX`, or `drop CAUSE` |
 //!
@@ -28,7 +28,6 @@ mod replay;
 mod state;
 
 pub use connections::{Connection, Connections};
-pub use full_leases::{FullLeases, RemoteEnd};
 pub use laws::always_safe;
 pub use line::Line;
 pub use replay::{PlainFault, plain_lines};

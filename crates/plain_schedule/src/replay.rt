@@ -2,9 +2,9 @@ ghost use Rattle.std.specs.Prelude.{◌≡◌, ◌<◌, ◌≤◌, ◌+◌, ◌^
 ghost use Rattle.std.specs.Option.{option_copied};
 ghost use Rattle.address_text.specs.Fields.{parts_of};
 ghost use Rattle.plain_schedule.specs.declared.replay.PlainFault.TheVariants.{NoMemory};
-ghost use Rattle.plain_schedule.specs.Answers.{Prints};
+ghost use Rattle.plain_schedule.specs.Answers.{Plays, Prints};
 ghost use Rattle.plain_schedule.specs.Safety.{IsAlwaysSafe};
-ghost use Rattle.plain_schedule.specs.Schedule.{line_step, lines_from, onto, plain_lines, start, without_end};
+ghost use Rattle.plain_schedule.specs.Schedule.{line_step, lines_from, onto, plain_lines, printed, start, without_end};
 
 use crate::laws::always_safe;
 use crate::line::line_of;
@@ -51,24 +51,43 @@ fn play_line(
     state.step(alloc, out, line)
 }
 
-/// What the lines behind the first print.
-fn play_lines(alloc: Global, rest: Option<&[u8]>) -> Result<String, PlainFault>
-    requires { length (parts_of 10 (option_copied rest)) < 2 ^ 32 }
-    ensures { Prints result (lines_from start 2 (parts_of 10 (option_copied rest.entry))) }
+/// Does the lines behind the first, one after the other, and prints what comes of them. Stops at the first bad one.
+fn play_lines(
+    alloc: Global,
+    state: &mut PlainState,
+    out: &mut String,
+    rest: Option<&[u8]>,
+) -> Result<(), PlainFault>
+    requires slots { state.old.table.slots < 2 }
+    requires few { length (parts_of 10 (option_copied rest)) < 2 ^ 32 }
+    ensures { Plays result (string_bytes out.new)
+        (printed (string_bytes out.old) (lines_from state.old 2 (parts_of 10 (option_copied rest.entry)))) }
 {
-    let mut state = PlainState::new(alloc)?;
-    let mut out = String::new(alloc);
     let mut number = 2u64;
     let mut left = rest;
     while let Some(text) = left {
         let (line, more) = cut(text, b'\n');
-        if !play_line(alloc, &mut state, &mut out, number, line)? {
+        if !play_line(alloc, state, out, number, line)? {
             return Err(PlainFault::Line(number));
         }
         number += 1;
         left = more;
     }
-    Ok(out)
+    Ok(())
+}
+
+/// What the lines behind the first print.
+#[tactic(auto, using(crate::proofs::LineByLine::printed_none))]
+fn print_lines(alloc: Global, rest: Option<&[u8]>) -> Result<String, PlainFault>
+    requires { length (parts_of 10 (option_copied rest)) < 2 ^ 32 }
+    ensures { Prints result (lines_from start 2 (parts_of 10 (option_copied rest.entry))) }
+{
+    let mut state = PlainState::new(alloc)?;
+    let mut out = String::new(alloc);
+    match play_lines(alloc, &mut state, &mut out, rest) {
+        Ok(()) => Ok(out),
+        Err(fault) => Err(fault),
+    }
 }
 
 fn without_end(text: &[u8]) -> &[u8]
@@ -94,5 +113,5 @@ pub fn plain_lines(alloc: Global, text: &[u8]) -> Result<String, PlainFault>
     if first != b"plain".as_slice() {
         return Err(PlainFault::Line(1));
     }
-    play_lines(alloc, rest)
+    print_lines(alloc, rest)
 }

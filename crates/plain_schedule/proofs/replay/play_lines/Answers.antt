@@ -1,10 +1,9 @@
 use Rattle.std.proofs.Common.{◌≡◌, List, ℕ, Result, sym, arith, subst, string_bytes}
-use Rattle.std.proofs.Common.{Ok, Err, String}
+use Rattle.std.proofs.Common.{Ok, Err}
 use Rattle.std.specs.Result.{IsErrAnd}
-use Rattle.std.specs.declared.alloc.Global.{Global}
 use Rattle.plain_schedule.specs.declared.replay.PlainFault.{PlainFault}
 use Rattle.plain_schedule.specs.declared.replay.PlainFault.TheVariants.{NoMemory}
-use Rattle.plain_schedule.specs.Answers.{Fails, Prints}
+use Rattle.plain_schedule.specs.Answers.{Fails, Plays}
 use Rattle.plain_schedule.proofs.LineByLine.{line_goes, line_stops, lines_end}
 use Rattle.plain_schedule.proofs.replay.play_lines.Goals as goal
 
@@ -32,10 +31,10 @@ returns c =
     let so_far = rw c.in_default.is at c.loop-left.invariant.so_far in
     lines_end c.loop-left.state c.loop-left.number (string_bytes c.loop-left.out) _ so_far
 
-out_of_memory : (r : Result (String Global) PlainFault) (wanted : Result (List ℕ) ℕ) → IsErrAnd r (λ e. e ≡ NoMemory)
-    → Prints r wanted
-out_of_memory (Ok text) wanted is = absurd is
-out_of_memory (Err fault) wanted is = subst (λ (f : PlainFault). Fails f wanted) (sym is) tt
+out_of_memory : (r : Result (Unit {0}) PlainFault) (text : List ℕ) (wanted : Result (List ℕ) ℕ)
+    → IsErrAnd r (λ e. e ≡ NoMemory) → Plays r text wanted
+out_of_memory (Ok done) text wanted is = absurd is
+out_of_memory (Err fault) text wanted is = subst (λ (f : PlainFault). Fails f wanted) (sym is) tt
 
 pub returns-in_err-play_line : goal.returns-in_err-play_line
-returns-in_err-play_line c = out_of_memory _ _ c.from_residual-in_err-play_line.ensures.1
+returns-in_err-play_line c = out_of_memory _ _ _ c.from_residual.ensures.1
