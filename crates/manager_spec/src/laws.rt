@@ -5,7 +5,8 @@ ghost use Rattle.manager_spec.specs.Clock.{on_tick};
 ghost use Rattle.manager_spec.specs.Footprints.{DropsOrNot, LeavesAllButOffer, LeavesAllButQueue};
 ghost use Rattle.manager_spec.specs.Footprints.{LeavesLog, LeavesMuxes, Rests};
 ghost use Rattle.manager_spec.specs.Manager.{Manager, opened_manager};
-ghost use Rattle.manager_spec.specs.ManagerTable.{from_agent, from_mux, from_replica, manager_half, manager_hears, manager_step};
+ghost use Rattle.manager_spec.specs.ManagerTable.{from_agent, from_mux, from_replica};
+ghost use Rattle.manager_spec.specs.ManagerTable.{manager_half, manager_hears, manager_step};
 ghost use Rattle.manager_spec.specs.Proposal.{propose};
 ghost use Rattle.node_spec.specs.Turns.{Arrived, Input};
 ghost use Rattle.vip_config.specs.declared.parts.ConfigParts.{ConfigParts};
@@ -47,5 +48,6 @@ pub fn drops()
 /// A follower has no acknowledgements and no queue: so it opens, and so it stays over each turn.
 pub fn followers_rest()
     ensures opened { (cfg : ConfigParts) (index : ℕ) (entries : List Entry) → Rests (opened_manager cfg index entries) }
-    ensures turn { (cfg : ConfigParts) (r : Manager) (input : Input) → Rests r → Rests (manager_step cfg r input).state }
+    ensures turn { (cfg : ConfigParts) (r : Manager) (input : Input) → Rests r
+        → Rests (manager_step cfg r input).state }
 {}
