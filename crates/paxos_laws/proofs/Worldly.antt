@@ -8,9 +8,11 @@ use Rattle.paxos_spec.specs.Acceptor.{reach}
 use Rattle.paxos_spec.specs.Replica.{Out}
 use Rattle.paxos_spec.specs.Agreement.{View, Seal}
 use Rattle.paxos_laws.specs.Facts.{Proposed, Inv}
-use Rattle.paxos_laws.specs.Steps.{Moves, EntryOk, Good, GoodOut, Here}
+use Rattle.paxos_laws.specs.Steps.{Moves, EntryOk, Good}
 use Rattle.paxos_laws.specs.Order.{IsNew}
-use Rattle.paxos_laws.specs.Worlds.{IsOpening, Turn, gets, runs, campaigns, is_offered, resends, says, hears, steps_down, opens, falls, goes_on, offered, Run, rests, turns, Follows, RunKeeps, OneForEver, LogGrowsOn, PrimaryKnowsForEver, EachWasOffered, OneLeads}
+use Rattle.paxos_laws.specs.Worlds.{Turn, gets, runs, campaigns, is_offered, resends, says, hears, steps_down, opens, falls}
+use Rattle.paxos_laws.specs.Worlds.{goes_on, IsOpening, TurnIsGood, offered, Run, rests, turns, Follows, RunKeeps, OneForEver}
+use Rattle.paxos_laws.specs.Worlds.{LogGrowsOn, PrimaryKnowsForEver, EachWasOffered, OneLeads}
 use Rattle.paxos_laws.proofs.Steps.{in_head, in_tail}
 use Rattle.paxos_laws.proofs.Begins.{none_proposed}
 use Rattle.paxos_laws.proofs.Proposals.{everywhere_on}
@@ -25,7 +27,7 @@ opening_ok w r (Some (entry.Vote ballot value)) is = absurd is
 opening_ok w r (Some (entry.Learn ballot value)) is = absurd is
 
 -- Each turn shows what it owes.
-turn_good : (w : View) (r : ℕ) (f : Option Value) (o : Out) → Turn w r f o → Here w r → GoodOut f w r o
+pub turn_good : TurnIsGood
 turn_good _ _ _ _ (gets w r x at) h = law.message w r x h at
 turn_good _ _ _ _ (runs w r b m up own) h = law.candidacy w r b m h up own
 turn_good _ _ _ _ (campaigns w r) h = law.campaign w r h

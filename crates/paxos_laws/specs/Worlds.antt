@@ -12,7 +12,7 @@ use Rattle.paxos_spec.specs.Leader.{candidate, value_out, is_follower}
 use Rattle.paxos_spec.specs.Replica.{Memory, with_leader, Out, quiet, to_all, on_message, on_campaign, on_offer}
 use Rattle.paxos_spec.specs.Agreement.{View, IsPrimary, IsChosen, world_log}
 use Rattle.paxos_laws.specs.Facts.{BodyOk, Inv}
-use Rattle.paxos_laws.specs.Steps.{Moves, Grows, IsPlain, one_body, reopened, cut_short, followed_by}
+use Rattle.paxos_laws.specs.Steps.{Moves, Grows, GoodOut, Here, IsPlain, one_body, reopened, cut_short, followed_by}
 use Rattle.paxos_laws.specs.Order.{IsNew}
 use Rattle.paxos_laws.specs.Values.{Everywhere}
 
@@ -70,6 +70,10 @@ pub data Run (w : View) : List Value → View → Type 0 where
   rests : Run w [] w
   turns : (v u : View) (values : List Value) (r : ℕ) (f : Option Value) (o : Out)
       → Run w values v → r < 5 → Turn v r f o → Moves v u r o → Run w (offered f values) u
+
+-- Each turn shows what it owes.
+abbrev pub TurnIsGood : Type 0
+TurnIsGood = (w : View) (r : ℕ) (f : Option Value) (o : Out) → Turn w r f o → Here w r → GoodOut f w r o
 
 -- what holds from w to u
 pub record Follows (w u : View) : Type 0 where

@@ -9,14 +9,15 @@ ghost use Rattle.paxos_laws.specs.Leading.{CoveredLasts, LeaderIsCovered, Leader
 ghost use Rattle.paxos_laws.specs.Order.{Begins, InOrderClaims, Keeps, StepGrows};
 ghost use Rattle.paxos_laws.specs.Values.{EachWasProposed, TestsHold, TestsTravel, ValuesTravel};
 ghost use Rattle.paxos_laws.specs.Worlds.{EachWasOffered, LogGrowsOn, OneForEver, OneLeads, PrimaryKnowsForEver};
-ghost use Rattle.paxos_laws.specs.Worlds.{RunKeeps};
+ghost use Rattle.paxos_laws.specs.Worlds.{RunKeeps, TurnIsGood};
 
 /// Whatever happens: a world is a beginning and a run of turns, in which the replicas do what [`each_step`] lists, in
-/// any order, and fall at any moment. It stays in order and only grows. At a slot one value is chosen, now or later;
-/// the log of all five begins with what it was; what lower ballots choose, now or ever, stands below the length that
-/// a primary's log has now; each value on a disk, in a message, in a leader's memory and in the log was offered; and
-/// no two replicas lead at one ballot.
+/// any order, and fall at any moment. Each turn shows what it owes. The world stays in order and only grows. At a
+/// slot one value is chosen, now or later; the log of all five begins with what it was; what lower ballots choose,
+/// now or ever, stands below the length that a primary's log has now; each value on a disk, in a message, in a
+/// leader's memory and in the log was offered; and no two replicas lead at one ballot.
 pub fn worlds()
+    ensures turn { TurnIsGood }
     ensures keeps { RunKeeps }
     ensures one { OneForEver }
     ensures log { LogGrowsOn }

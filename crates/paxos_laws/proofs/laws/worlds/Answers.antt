@@ -1,6 +1,9 @@
-use Rattle.paxos_laws.proofs.Worldly.{run_keeps, one_for_ever, log_grows_on, primary_knows_for_ever}
+use Rattle.paxos_laws.proofs.Worldly.{turn_good, run_keeps, one_for_ever, log_grows_on, primary_knows_for_ever}
 use Rattle.paxos_laws.proofs.Worldly.{each_was_offered, one_leads}
 use Rattle.paxos_laws.proofs.laws.worlds.Goals as goal
+
+pub returns-clause-turn : goal.returns-clause-turn
+returns-clause-turn c = turn_good
 
 pub returns-clause-keeps : goal.returns-clause-keeps
 returns-clause-keeps c = run_keeps
