@@ -5,3 +5,5 @@ pub mod LifeLaws
 pub mod PlaceLaws
 pub mod WorkedRun
 pub mod HolderLaws
+pub mod TruthLaws
+pub mod OutcomeLaws

@@ -1,5 +1,5 @@
 -- Who holds a range: no two leases are on one, each is on a leasable range, and a lease that stands is the one that it was.
-use Rattle.std.specs.Prelude.{ℕ, ◌≡◌, ◌≢◌, ◌<◌, ◌≤◌, true, List, [], ◌∷◌, Option, Some}
+use Rattle.std.specs.Prelude.{ℕ, ◌≡◌, ◌≢◌, ◌<◌, ◌≤◌, true, List, [], ◌∷◌, Some}
 use Rattle.wire_core.specs.declared.rules.LeaseRules.{LeaseRules}
 use Rattle.wire_core.specs.Ranges.{is_leasable}
 use Rattle.wire_core.specs.Members.{Each}

@@ -3,3 +3,4 @@ pub mod Free
 pub mod Table
 pub mod Lives
 pub mod Holders
+pub mod Truths

@@ -7,6 +7,7 @@ ghost use Rattle.lease_spec.specs.Holders.{AllLeasable, OwnRanges};
 ghost use Rattle.lease_spec.specs.Lives.{AllCaused, EarlierIsGone, Lasts, StandsOrGone};
 ghost use Rattle.lease_spec.specs.Places.{AreShort, Ascends, Placed, commands};
 ghost use Rattle.lease_spec.specs.Table.{OneMore, story};
+ghost use Rattle.lease_spec.specs.Truths.{LivesInOrder, OutcomesTold, RowsTold};
 ghost use Rattle.wire_core.specs.Commands.{LogCommand};
 
 /// The least free range of a VIP: it is leasable and without a row, and none with a lesser start is. Where there is
@@ -36,4 +37,14 @@ pub fn slots()
 pub fn holders()
     ensures leasable { (rules : LeaseRules) (cs : List Placed) → AllLeasable rules (story rules cs).leases.rows }
     ensures own { (rules : LeaseRules) (cs : List Placed) → OwnRanges (story rules cs).leases.rows }
+{}
+
+/// Whatever commands are agreed on, the table says what was done. Each row is a lease that was born: all its fields but
+/// the phase are those of its birth, a Leased row was granted, and a Freeing one was given back or cleared. Each effect
+/// on a lease came after its birth, and its end after it was given back or cleared. What is kept of a machine's last
+/// request is what was done at it.
+pub fn truths()
+    ensures rows { (rules : LeaseRules) (cs : List Placed) → RowsTold rules cs }
+    ensures order { (rules : LeaseRules) (cs : List Placed) → LivesInOrder rules cs }
+    ensures outcomes { (rules : LeaseRules) (cs : List Placed) → OutcomesTold rules cs }
 {}
