@@ -7,3 +7,4 @@ pub mod WorkedRun
 pub mod HolderLaws
 pub mod TruthLaws
 pub mod OutcomeLaws
+pub mod CountLaws

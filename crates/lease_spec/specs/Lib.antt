@@ -4,3 +4,4 @@ pub mod Table
 pub mod Lives
 pub mod Holders
 pub mod Truths
+pub mod Moments

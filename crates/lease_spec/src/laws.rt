@@ -3,7 +3,7 @@ ghost use Rattle.wire_core.specs.declared.address.Ip4.{Ip4};
 ghost use Rattle.wire_core.specs.declared.rules.LeaseRules.{LeaseRules};
 ghost use Rattle.lease_spec.specs.declared.row.Row.{Row};
 ghost use Rattle.lease_spec.specs.Free.{IsLeastFree, least_free};
-ghost use Rattle.lease_spec.specs.Holders.{AllLeasable, OwnRanges};
+ghost use Rattle.lease_spec.specs.Holders.{AllLeasable, OwnRanges, WithinLimit};
 ghost use Rattle.lease_spec.specs.Lives.{AllCaused, EarlierIsGone, Lasts, StandsOrGone};
 ghost use Rattle.lease_spec.specs.Places.{AreShort, Ascends, Placed, commands};
 ghost use Rattle.lease_spec.specs.Table.{OneMore, story};
@@ -33,10 +33,12 @@ pub fn slots()
     ensures more { (rules : LeaseRules) (values : List (List LogCommand)) (value : List LogCommand) → OneMore rules values value }
 {}
 
-/// Whatever commands are agreed on: no two leases that stand are on one range, and each is on a leasable one.
+/// Whatever commands are agreed on: no two leases that stand are on one range, each is on a leasable one, and no machine
+/// has more than the limit.
 pub fn holders()
     ensures leasable { (rules : LeaseRules) (cs : List Placed) → AllLeasable rules (story rules cs).leases.rows }
     ensures own { (rules : LeaseRules) (cs : List Placed) → OwnRanges (story rules cs).leases.rows }
+    ensures limit { (rules : LeaseRules) (cs : List Placed) → WithinLimit rules (story rules cs).leases.rows }
 {}
 
 /// Whatever commands are agreed on, the table says what was done. Each row is a lease that was born: all its fields but
