@@ -8,3 +8,4 @@ pub mod HolderLaws
 pub mod TruthLaws
 pub mod OutcomeLaws
 pub mod CountLaws
+pub mod MomentLaws

@@ -5,6 +5,7 @@ ghost use Rattle.lease_spec.specs.declared.row.Row.{Row};
 ghost use Rattle.lease_spec.specs.Free.{IsLeastFree, least_free};
 ghost use Rattle.lease_spec.specs.Holders.{AllLeasable, OwnRanges, WithinLimit};
 ghost use Rattle.lease_spec.specs.Lives.{AllCaused, EarlierIsGone, Lasts, StandsOrGone};
+ghost use Rattle.lease_spec.specs.Moments.{AllTrue};
 ghost use Rattle.lease_spec.specs.Places.{AreShort, Ascends, Placed, commands};
 ghost use Rattle.lease_spec.specs.Table.{OneMore, story};
 ghost use Rattle.lease_spec.specs.Truths.{LivesInOrder, OutcomesTold, RowsTold};
@@ -44,9 +45,13 @@ pub fn holders()
 /// Whatever commands are agreed on, the table says what was done. Each row is a lease that was born: all its fields but
 /// the phase are those of its birth, a Leased row was granted, and a Freeing one was given back or cleared. Each effect
 /// on a lease came after its birth, and its end after it was given back or cleared. What is kept of a machine's last
-/// request is what was done at it.
+/// request is what was done at it. And each effect is true of the table just before its command: a new row's range was
+/// the least free one of its machine's VIP, and the machine had room for it; a request was Exhausted where each leasable
+/// range of that VIP had a row, and AtLimit where the machine had as many rows as it may have; a lease was granted that
+/// was BeingLeased, given back or cleared that wasn't Freeing, and gone that was.
 pub fn truths()
     ensures rows { (rules : LeaseRules) (cs : List Placed) → RowsTold rules cs }
     ensures order { (rules : LeaseRules) (cs : List Placed) → LivesInOrder rules cs }
     ensures outcomes { (rules : LeaseRules) (cs : List Placed) → OutcomesTold rules cs }
+    ensures moments { (rules : LeaseRules) (cs : List Placed) → AllTrue rules cs }
 {}
