@@ -9,3 +9,4 @@ pub mod TruthLaws
 pub mod OutcomeLaws
 pub mod CountLaws
 pub mod MomentLaws
+pub mod RiseLaws

@@ -5,3 +5,4 @@ pub mod Lives
 pub mod Holders
 pub mod Truths
 pub mod Moments
+pub mod Rises

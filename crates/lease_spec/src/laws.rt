@@ -7,6 +7,7 @@ ghost use Rattle.lease_spec.specs.Holders.{AllLeasable, OwnRanges, WithinLimit};
 ghost use Rattle.lease_spec.specs.Lives.{AllCaused, EarlierIsGone, Lasts, StandsOrGone};
 ghost use Rattle.lease_spec.specs.Moments.{AllTrue};
 ghost use Rattle.lease_spec.specs.Places.{AreShort, Ascends, Placed, commands};
+ghost use Rattle.lease_spec.specs.Rises.{AlwaysRises};
 ghost use Rattle.lease_spec.specs.Table.{OneMore, story};
 ghost use Rattle.lease_spec.specs.Truths.{LivesInOrder, OutcomesTold, RowsTold};
 ghost use Rattle.wire_core.specs.Commands.{LogCommand};
@@ -54,4 +55,10 @@ pub fn truths()
     ensures order { (rules : LeaseRules) (cs : List Placed) → LivesInOrder rules cs }
     ensures outcomes { (rules : LeaseRules) (cs : List Placed) → OutcomesTold rules cs }
     ensures moments { (rules : LeaseRules) (cs : List Placed) → AllTrue rules cs }
+{}
+
+/// Whatever commands are agreed on, and whatever comes after them: the boot that is known of an agent never falls, and
+/// what is kept of a machine's last request is replaced only by a request with a later pair of boot and number.
+pub fn rises()
+    ensures { (rules : LeaseRules) (cs ds : List Placed) → AlwaysRises rules cs ds }
 {}
