@@ -1,5 +1,5 @@
 -- How many rows a machine has, and the least free range, after each edit of the rows.
-use Rattle.std.proofs.Common.{◌≡◌, ℕ, zero, suc, ◌+◌, ◌<◌, ◌≤◌, Bool, true, false, not, ◌&&◌, ◌==◌, cond, List, [], ◌∷◌, ◌++◌, map, filter, count_by, Option, Some, None, refl, sym, ap, ◌∙◌, subst, arith, nat_lt, nat_le}
+use Rattle.std.proofs.Common.{◌≡◌, ℕ, zero, suc, ◌+◌, ◌<◌, ◌≤◌, Bool, true, false, not, ◌&&◌, ◌==◌, cond, List, [], ◌∷◌, ◌++◌, map, filter, count_by, Option, Some, None, refl, ap, arith, nat_lt, nat_le}
 use Rattle.std.specs.Prelude.{if◌then◌else◌}
 use Rattle.std.specs.List.{list_any}
 use Rattle.std.proofs.lemmas.List.Sums.{sum_by-cons, sum_by_push}
@@ -14,7 +14,7 @@ use Rattle.lease_spec.specs.declared.row.Row.{Row}
 use Rattle.lease_spec.specs.declared.row.Phase.{Phase}
 use Rattle.lease_spec.specs.declared.row.Phase.TheVariants.{Leased, Freeing}
 use Rattle.lease_spec.specs.Places.{Placed}
-use Rattle.lease_spec.specs.Free.{same_range, has_no_row, is_free, first_start, range_of_start, least_free}
+use Rattle.lease_spec.specs.Free.{same_range, has_no_row, first_start, range_of_start, least_free}
 use Rattle.lease_spec.specs.Holders.{WithinLimit}
 use Rattle.lease_spec.specs.Table.{Leases, Done, command, story, rule_of, reserve, decide, raise_known, grant, release, free, up, row_at, is_stale, is_freeing, is_being, at_phase, take_range, known_boot, last_of, is_later, new_row, move, cleared, row_count}
 use Rattle.lease_spec.proofs.MemberLaws.{by_if}

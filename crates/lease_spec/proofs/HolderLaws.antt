@@ -111,7 +111,7 @@ each_filter P p (row ∷ rows) h = by (p row) (each_filter P p rows h.1)
     by true rest = (h.0, rest)
     by false rest = rest
 
-apart_filter : (Differ : Row → Row → Type 0) (p : Row → Bool) (rows : List Row) → Apart Differ rows → Apart Differ (filter p rows)
+pub apart_filter : (Differ : Row → Row → Type 0) (p : Row → Bool) (rows : List Row) → Apart Differ rows → Apart Differ (filter p rows)
 apart_filter Differ p [] h = tt
 apart_filter Differ p (row ∷ rows) h = by (p row) (apart_filter Differ p rows h.1)
   where

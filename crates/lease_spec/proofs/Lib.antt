@@ -10,3 +10,4 @@ pub mod OutcomeLaws
 pub mod CountLaws
 pub mod MomentLaws
 pub mod RiseLaws
+pub mod OnceLaws

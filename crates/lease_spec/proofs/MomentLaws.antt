@@ -1,6 +1,5 @@
 -- Each effect is true of the table just before its command.
-use Rattle.std.proofs.Common.{◌≡◌, ◌≢◌, ◌⊎◌, inl, inr, ℕ, ◌+◌, ◌<◌, ◌≤◌, Bool, true, false, not, ◌&&◌, ◌==◌, cond, List, [], ◌∷◌, ◌++◌, map, filter, Option, Some, None, refl, sym, ap, ◌∙◌, subst, arith, nat_lt, nat_le}
-use Rattle.std.specs.Prelude.{if◌then◌else◌, fold}
+use Rattle.std.proofs.Common.{◌≡◌, ◌≢◌, inl, inr, ℕ, ◌<◌, ◌≤◌, Bool, true, false, not, ◌&&◌, ◌==◌, List, [], ◌∷◌, ◌++◌, filter, Option, Some, None, refl, sym, ap, ◌∙◌, subst, arith, nat_lt, nat_le}
 use Rattle.std.proofs.lemmas.Grind.{fold-append}
 use Rattle.std.proofs.lemmas.Bool.Decides.{nat_tests}
 use Rattle.std.proofs.lemmas.List.{append_assoc}
@@ -10,18 +9,18 @@ use Rattle.wire_core.specs.declared.rules.MachineRule.{MachineRule}
 use Rattle.wire_core.specs.declared.rules.LeaseRules.{LeaseRules}
 use Rattle.wire_core.specs.Commands.{LogCommand, Reserve, Granted, Release, Freed, Up}
 use Rattle.wire_core.specs.Members.{In, Each}
-use Rattle.wire_core.specs.Ranges.{range_at, is_leasable}
+use Rattle.wire_core.specs.Ranges.{range_at}
 use Rattle.lease_spec.specs.declared.row.Row.{Row}
 use Rattle.lease_spec.specs.declared.row.Phase.{Phase}
 use Rattle.lease_spec.specs.declared.row.Phase.TheVariants.{BeingLeased, Leased, Freeing}
 use Rattle.lease_spec.specs.declared.effect.Effect.{Effect}
 use Rattle.lease_spec.specs.declared.effect.Effect.TheVariants as effect
 use Rattle.lease_spec.specs.Places.{Placed}
-use Rattle.lease_spec.specs.Free.{same_range, has_no_row, is_free, least_free, IsLeast, IsLeastFree, NoneFree}
+use Rattle.lease_spec.specs.Free.{same_range, has_no_row, is_free, least_free, IsLeastFree, NoneFree}
 use Rattle.lease_spec.specs.Lives.{Causes}
-use Rattle.lease_spec.specs.Moments.{IsAsked, IsBirth, HasRow, AllTaken, IsExhausted, IsAtLimit, IsGrant, IsRelease, IsEnd, IsClearing, IsTrueOf, Happened, AllTrue}
-use Rattle.lease_spec.specs.Table.{Leases, Done, none_done, tell, command, story, rule_of, reserve, decide, raise_known, grant, release, free, up, row_at, is_stale, is_freeing, is_being, at_phase, take_range, known_boot, last_of, is_later, new_row, row_count}
-use Rattle.lease_spec.proofs.MemberLaws.{each_append, each_in, each_from, each_on, each_map, in_cases, by_if}
+use Rattle.lease_spec.specs.Moments.{IsAsked, HasRow, AllTaken, IsClearing, IsTrueOf, Happened, AllTrue}
+use Rattle.lease_spec.specs.Table.{Leases, Done, none_done, tell, command, story, rule_of, reserve, decide, raise_known, grant, release, free, up, row_at, is_stale, is_freeing, is_being, at_phase, take_range, known_boot, last_of, is_later, row_count}
+use Rattle.lease_spec.proofs.MemberLaws.{each_append, each_on, each_map, each_passing, by_if}
 use Rattle.lease_spec.proofs.CauseLaws.{story_of, by_command, row_number, rule_machine}
 use Rattle.lease_spec.proofs.CountLaws.{count-raised, least_free-raised}
 use Rattle.lease_spec.proofs.FreeLaws.{least_free_is}
@@ -76,14 +75,6 @@ stale_clears t agent boot row i stale = record {
   phase = not_freeing row.phase (grind arith);
   now = refl;
 }
-
-each_passing : {X : Type 0} (P : X → Type 0) (p : X → Bool) (xs : List X) → ((x : X) → In x xs → p x ≡ true → P x) → Each P (filter p xs)
-each_passing P p [] f = tt
-each_passing P p (x ∷ xs) f = by (p x) refl (each_passing P p xs (λ y i e. f y (inr i) e))
-  where
-    by : (b : Bool) → p x ≡ b → Each P (filter p xs) → Each P (cond b (x ∷ filter p xs) (filter p xs))
-    by true is rest = (f x (inl refl) is, rest)
-    by false is rest = rest
 
 raise_true : (rules : LeaseRules) (agent boot : ℕ) (t : Leases) → AreTrue rules t (raise_known agent boot t)
 unfolding raise_known

@@ -1,5 +1,5 @@
 -- Known boots and last pairs only rise.
-use Rattle.std.proofs.Common.{◌≡◌, ◌⊎◌, inl, inr, ℕ, ◌<◌, ◌≤◌, Bool, true, false, not, ◌&&◌, ◌||◌, ◌==◌, cond, List, [], ◌∷◌, ◌++◌, Option, Some, None, refl, sym, ap, ◌∙◌, subst, arith, nat_lt, nat_le}
+use Rattle.std.proofs.Common.{◌≡◌, ◌⊎◌, inl, inr, ℕ, ◌<◌, ◌≤◌, Bool, true, false, not, ◌&&◌, ◌==◌, List, [], ◌∷◌, Option, Some, None, refl, sym, ap, ◌∙◌, subst, arith, nat_lt, nat_le}
 use Rattle.std.specs.Prelude.{if◌then◌else◌, fold, find}
 use Rattle.std.proofs.lemmas.Grind.{fold-append}
 use Rattle.std.proofs.lemmas.Bool.Decides.{nat_tests}
@@ -12,7 +12,7 @@ use Rattle.lease_spec.specs.declared.row.Row.{Row}
 use Rattle.lease_spec.specs.Places.{Placed}
 use Rattle.lease_spec.specs.Free.{least_free}
 use Rattle.lease_spec.specs.Rises.{LastRises, Rises, AlwaysRises}
-use Rattle.lease_spec.specs.Table.{Last, Known, Leases, Done, none_done, tell, command, story, rule_of, reserve, decide, raise_known, grant, release, free, up, row_at, is_freeing, is_being, take_range, boot_of, known_boot, last_of, is_later, row_count, put, with_known, with_last}
+use Rattle.lease_spec.specs.Table.{Last, Known, Leases, Done, none_done, tell, command, story, rule_of, reserve, decide, raise_known, grant, release, free, up, row_at, is_freeing, is_being, take_range, boot_of, known_boot, last_of, is_later, row_count, with_known, with_last}
 use Rattle.lease_spec.proofs.MemberLaws.{by_if}
 
 -- ---- from one table to the next

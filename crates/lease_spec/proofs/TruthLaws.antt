@@ -16,7 +16,7 @@ use Rattle.lease_spec.specs.declared.effect.Effect.{Effect}
 use Rattle.lease_spec.specs.declared.effect.Effect.TheVariants as effect
 use Rattle.lease_spec.specs.Places.{Placed}
 use Rattle.lease_spec.specs.Free.{least_free}
-use Rattle.lease_spec.specs.Table.{Leases, Done, command, story, rule_of, reserve, decide, raise_known, grant, release, free, up, row_at, is_stale, is_freeing, is_being, at_phase, take_range, known_boot, last_of, is_later, new_row, move, cleared, row_count}
+use Rattle.lease_spec.specs.Table.{Leases, Done, tell, command, story, rule_of, reserve, decide, raise_known, grant, release, free, up, row_at, is_stale, is_freeing, is_being, at_phase, take_range, known_boot, last_of, is_later, new_row, move, cleared, row_count}
 use Rattle.lease_spec.specs.Lives.{Birth, IsGranted, IsDying}
 use Rattle.lease_spec.specs.Truths.{WasBorn, PhaseTold, RowTold, RowsTold, Prepared, InOrder, LivesInOrder}
 use Rattle.lease_spec.proofs.MemberLaws.{each_append, each_in, each_from, each_on, each_map, in_left, in_right, in_map, in_filter, by_if, found_in}
@@ -48,7 +48,7 @@ phase_more es fs n Freeing h = dying_more es fs n h
 row_more : (es fs : List Effect) (row : Row) → RowTold es row → RowTold (es ++ fs) row
 row_more es fs row h = record { was = born_more es fs row h.was; phase = phase_more es fs row.n row.phase h.phase }
 
-prepared_more : (es fs : List Effect) (e : Effect) → Prepared es e → Prepared (es ++ fs) e
+pub prepared_more : (es fs : List Effect) (e : Effect) → Prepared es e → Prepared (es ++ fs) e
 prepared_more es fs (effect.Reserved row) h = tt
 prepared_more es fs (effect.Exhausted machine boot seq place) h = tt
 prepared_more es fs (effect.AtLimit machine boot seq count) h = tt
@@ -238,14 +238,17 @@ command_orders rules es place (Up agent boot) t h = up_orders es agent boot t h
 
 -- ---- every list of commands
 
-record Ordered (d : Done) : Type 0 where
-  rows : Each (RowTold d.effects) d.leases.rows
-  order : InOrder [] d.effects
+pub record Ordered (d : Done) : Type 0 where
+  pub rows : Each (RowTold d.effects) d.leases.rows
+  pub order : InOrder [] d.effects
+
+pub ordered_step : (rules : LeaseRules) (c : Placed) (d : Done) → Ordered d → Ordered (tell rules d c)
+ordered_step rules c d h =
+    let o : Orders d.effects (command rules c.place c.command d.leases) = command_orders rules d.effects c.place c.command d.leases h.rows in
+    record { rows = o.rows; order = order_append [] d.effects _ h.order o.order }
 
 ordered : (rules : LeaseRules) (cs : List Placed) → Ordered (story rules cs)
-ordered rules cs = story_of rules (λ _ d. Ordered d) (record { rows = tt; order = tt })
-    (λ cs c d h. let o : Orders d.effects (command rules c.place c.command d.leases) = command_orders rules d.effects c.place c.command d.leases h.rows in
-    record { rows = o.rows; order = order_append [] d.effects _ h.order o.order }) cs
+ordered rules cs = story_of rules (λ _ d. Ordered d) (record { rows = tt; order = tt }) (λ cs c d h. ordered_step rules c d h) cs
 
 pub rows_told : (rules : LeaseRules) (cs : List Placed) → RowsTold rules cs
 rows_told rules cs = (ordered rules cs).rows

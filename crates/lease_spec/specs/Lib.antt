@@ -6,3 +6,4 @@ pub mod Holders
 pub mod Truths
 pub mod Moments
 pub mod Rises
+pub mod Once

@@ -1,5 +1,5 @@
 -- What only rises: the boot that is known of an agent, and the pair of a machine's last request.
-use Rattle.std.specs.Prelude.{ℕ, ◌≡◌, ◌⊎◌, ◌≤◌, true, List, ◌++◌, Option, Some}
+use Rattle.std.specs.Prelude.{ℕ, ◌≡◌, ◌⊎◌, ◌≤◌, true, List, ◌++◌, Some}
 use Rattle.wire_core.specs.declared.address.Ip4.{Ip4}
 use Rattle.wire_core.specs.declared.rules.LeaseRules.{LeaseRules}
 use Rattle.lease_spec.specs.Places.{Placed}

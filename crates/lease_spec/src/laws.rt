@@ -3,9 +3,10 @@ ghost use Rattle.wire_core.specs.declared.address.Ip4.{Ip4};
 ghost use Rattle.wire_core.specs.declared.rules.LeaseRules.{LeaseRules};
 ghost use Rattle.lease_spec.specs.declared.row.Row.{Row};
 ghost use Rattle.lease_spec.specs.Free.{IsLeastFree, least_free};
-ghost use Rattle.lease_spec.specs.Holders.{AllLeasable, OwnRanges, WithinLimit};
+ghost use Rattle.lease_spec.specs.Holders.{AllLeasable, OwnNumbers, OwnRanges, WithinLimit};
 ghost use Rattle.lease_spec.specs.Lives.{AllCaused, EarlierIsGone, Lasts, StandsOrGone};
 ghost use Rattle.lease_spec.specs.Moments.{AllTrue};
+ghost use Rattle.lease_spec.specs.Once.{NothingTwice};
 ghost use Rattle.lease_spec.specs.Places.{AreShort, Ascends, Placed, commands};
 ghost use Rattle.lease_spec.specs.Rises.{AlwaysRises};
 ghost use Rattle.lease_spec.specs.Table.{OneMore, story};
@@ -19,12 +20,16 @@ pub fn least_free()
 {}
 
 /// Whatever commands are agreed on: each effect has its command, and what was done stays done. Where their places rise,
-/// each lease that was born stands or is gone, and of two leases on one range the earlier one is gone.
+/// each lease that was born stands or is gone, of two leases on one range the earlier one is gone, no two leases that
+/// stand have one number, and nothing comes back: a number is born once, granted once, given back or cleared once, and
+/// gone once.
 pub fn lives()
     ensures caused { (rules : LeaseRules) (cs : List Placed) → AllCaused rules cs }
     ensures lasts { (rules : LeaseRules) (cs ds : List Placed) → Lasts rules cs ds }
     ensures stands { (rules : LeaseRules) (cs : List Placed) → Ascends cs → StandsOrGone rules cs }
     ensures one_row { (rules : LeaseRules) (cs : List Placed) → Ascends cs → EarlierIsGone rules cs }
+    ensures numbers { (rules : LeaseRules) (cs : List Placed) → Ascends cs → OwnNumbers (story rules cs).leases.rows }
+    ensures once { (rules : LeaseRules) (cs : List Placed) → Ascends cs → NothingTwice rules cs }
 {}
 
 /// The places of a log whose values have at most 16 commands rise, so [`lives`] speaks of every such log. A log with
