@@ -89,7 +89,7 @@ went_up : (c : Placed) (agent boot : ℕ) (t : Leases) → c.command ≡ Up agen
 unfolding up
 went_up c agent boot t is = by_if (From c) (nat_lt agent 256 && nat_lt (known_boot t.known agent) boot) (λ _. (is, raised c agent boot t (λ b lt. rw is (refl, lt)))) (λ _. tt)
 
-by_command : (rules : LeaseRules) (c : Placed) (t : Leases) (x : LogCommand) → c.command ≡ x → From c (command rules c.place x t)
+pub by_command : (rules : LeaseRules) (c : Placed) (t : Leases) (x : LogCommand) → c.command ≡ x → From c (command rules c.place x t)
 by_command rules c t (Reserve agent boot machine seq) is = reserved rules c agent boot machine seq (rule_of rules machine) t is (rule_machine rules machine)
 by_command rules c t (Granted n muxes) is = granted c t n muxes (row_at t.rows n) is (row_number t.rows n)
 by_command rules c t (Release n) is = released c t n (row_at t.rows n) is (row_number t.rows n)

@@ -1,6 +1,6 @@
 -- No two leases are on one range, whatever commands come, and a lease that stands is the one that it was.
-use Rattle.std.proofs.Common.{◌≡◌, ◌≢◌, inl, inr, ℕ, ◌+◌, ◌*◌, ◌<◌, ◌≤◌, Bool, true, false, ◌==◌, nat_lt, nat_le, List, [], ◌∷◌, ◌++◌, map, filter, length, Option, Some, None, refl, sym, ap, ◌∙◌, subst, arith}
-use Rattle.std.specs.Prelude.{if◌then◌else◌, not, ◌&&◌, fold, find, cond}
+use Rattle.std.proofs.Common.{◌≡◌, ◌≢◌, ℕ, ◌+◌, ◌*◌, ◌<◌, ◌≤◌, Bool, true, false, ◌==◌, nat_lt, nat_le, List, [], ◌∷◌, ◌++◌, map, filter, length, Option, Some, None, refl, sym, ap, ◌∙◌, subst, arith}
+use Rattle.std.specs.Prelude.{if◌then◌else◌, not, ◌&&◌, fold, cond}
 use Rattle.std.specs.Option.{option_or}
 use Rattle.std.proofs.lemmas.Bool.Decides.{nat_tests}
 use Rattle.std.proofs.lemmas.List.Folds.{find-append}
@@ -9,16 +9,16 @@ use Rattle.wire_core.specs.declared.range.Range.{Range}
 use Rattle.wire_core.specs.declared.rules.MachineRule.{MachineRule}
 use Rattle.wire_core.specs.declared.rules.LeaseRules.{LeaseRules}
 use Rattle.wire_core.specs.Ranges.{is_leasable}
-use Rattle.wire_core.specs.Members.{In, Each}
+use Rattle.wire_core.specs.Members.{Each}
 use Rattle.wire_core.specs.Commands.{LogCommand, Reserve, Granted, Release, Freed, Up}
 use Rattle.lease_spec.specs.declared.row.Row.{Row}
 use Rattle.lease_spec.specs.declared.row.Phase.{Phase}
 use Rattle.lease_spec.specs.declared.row.Phase.TheVariants.{Leased, Freeing}
 use Rattle.lease_spec.specs.Places.{Placed, placed, slot_commands}
 use Rattle.lease_spec.specs.Free.{has_no_row, least_free}
-use Rattle.lease_spec.specs.Table.{Leases, Done, nothing, next, none_done, tell, command, story, apply, rule_of, reserve, decide, raise_known, grant, release, free, up, row_at, is_stale, is_freeing, is_being, at_phase, take_range, known_boot, last_of, is_later, new_row, move, cleared, row_count}
+use Rattle.lease_spec.specs.Table.{Leases, Done, nothing, tell, command, story, apply, rule_of, reserve, decide, raise_known, grant, release, free, up, row_at, is_stale, is_freeing, is_being, at_phase, take_range, known_boot, last_of, is_later, new_row, move, cleared, row_count}
 use Rattle.lease_spec.specs.Holders.{Apart, OwnRanges, OwnNumbers, AllLeasable, AllBelow, SameLease, Stood, GoesOn}
-use Rattle.lease_spec.proofs.MemberLaws.{each_append, each_in, each_from, each_on, each_map, by_if, found_passes}
+use Rattle.lease_spec.proofs.MemberLaws.{each_append, each_from, each_on, each_map, by_if}
 use Rattle.lease_spec.proofs.CauseLaws.{row_number, story_of}
 use Rattle.lease_spec.proofs.FreeLaws.{no_row, found_free, found_leasable}
 
@@ -111,7 +111,7 @@ each_filter P p (row ∷ rows) h = by (p row) (each_filter P p rows h.1)
     by true rest = (h.0, rest)
     by false rest = rest
 
-apart_filter : (Differ : Row → Row → Type 0) (p : Row → Bool) (rows : List Row) → Apart Differ rows → Apart Differ (filter p rows)
+pub apart_filter : (Differ : Row → Row → Type 0) (p : Row → Bool) (rows : List Row) → Apart Differ rows → Apart Differ (filter p rows)
 apart_filter Differ p [] h = tt
 apart_filter Differ p (row ∷ rows) h = by (p row) (apart_filter Differ p rows h.1)
   where

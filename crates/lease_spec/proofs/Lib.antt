@@ -5,3 +5,9 @@ pub mod LifeLaws
 pub mod PlaceLaws
 pub mod WorkedRun
 pub mod HolderLaws
+pub mod TruthLaws
+pub mod OutcomeLaws
+pub mod CountLaws
+pub mod MomentLaws
+pub mod RiseLaws
+pub mod OnceLaws

@@ -135,7 +135,7 @@ free_change d (Some row) = by_if (Change d) (is_freeing row.phase)
     (λ _. barren_change d _ (λ b i. i) (λ b s. inl s))
 
 -- each lease that was born has a number below this one
-abbrev Below : Done → ℕ → Type 0
+abbrev pub Below : Done → ℕ → Type 0
 Below d place = (a : Row) → In (effect.Reserved a) d.effects → a.n < place
 
 take_change : (d : Done) (place agent boot : ℕ) (machine : Ip4) (seq : ℕ) (o : Option Range) → ((r : Range) → o ≡ Some r → has_no_row d.leases.rows r ≡ true) → Below d place
@@ -203,7 +203,7 @@ ascends_front (x ∷ cs) c h = let rest = ascends_front cs c h.1 in
     ((each_left (λ y. x.place < y.place) cs (c ∷ []) h.0, rest.0), (each_in (λ y. x.place < y.place) (cs ++ c ∷ []) c h.0 (in_right cs (c ∷ []) c (inl refl)), rest.1))
 
 -- what was born was born at an earlier place
-below_now : (cs : List Placed) (c : Placed) (d : Done) → Each (HasCause cs) d.effects → Each (λ x. x.place < c.place) cs → Below d c.place
+pub below_now : (cs : List Placed) (c : Placed) (d : Done) → Each (HasCause cs) d.effects → Each (λ x. x.place < c.place) cs → Below d c.place
 below_now cs c d caused low a i =
     let k : HasCause cs (effect.Reserved a) = each_in (HasCause cs) d.effects (effect.Reserved a) caused i in
     let at : k.command.place < c.place = each_in (λ x. x.place < c.place) cs k.command low k.there in

@@ -19,6 +19,15 @@ pub each_from : {X : Type 0} (P : X → Type 0) (xs : List X) → ((x : X) → I
 each_from P [] f = tt
 each_from P (x ∷ xs) f = (f x (inl refl), each_from P xs (λ y i. f y (inr i)))
 
+-- each that passes, where what passes has it
+pub each_passing : {X : Type 0} (P : X → Type 0) (p : X → Bool) (xs : List X) → ((x : X) → In x xs → p x ≡ true → P x) → Each P (filter p xs)
+each_passing P p [] f = tt
+each_passing P p (x ∷ xs) f = by (p x) refl (each_passing P p xs (λ y i e. f y (inr i) e))
+  where
+    by : (b : Bool) → p x ≡ b → Each P (filter p xs) → Each P (cond b (x ∷ filter p xs) (filter p xs))
+    by true is rest = (f x (inl refl) is, rest)
+    by false is rest = rest
+
 pub each_map : {X Y : Type 0} (P : Y → Type 0) (f : X → Y) (xs : List X) → Each (λ x. P (f x)) xs → Each P (map f xs)
 each_map P f [] a = tt
 each_map P f (x ∷ xs) a = (a.0, each_map P f xs a.1)

@@ -1,10 +1,11 @@
 -- Who holds a range: no two leases are on one, each is on a leasable range, and a lease that stands is the one that it was.
-use Rattle.std.specs.Prelude.{ℕ, ◌≡◌, ◌≢◌, ◌<◌, ◌≤◌, true, List, [], ◌∷◌, Option, Some}
+use Rattle.std.specs.Prelude.{ℕ, ◌≡◌, ◌≢◌, ◌<◌, ◌≤◌, true, List, [], ◌∷◌, Some}
+use Rattle.wire_core.specs.declared.address.Ip4.{Ip4}
 use Rattle.wire_core.specs.declared.rules.LeaseRules.{LeaseRules}
 use Rattle.wire_core.specs.Ranges.{is_leasable}
 use Rattle.wire_core.specs.Members.{Each}
 use Rattle.lease_spec.specs.declared.row.Row.{Row}
-use Rattle.lease_spec.specs.Table.{row_at}
+use Rattle.lease_spec.specs.Table.{row_at, row_count}
 
 -- each row differs so from each that follows
 abbrev pub Apart : (Row → Row → Type 0) → List Row → Type 0
@@ -32,6 +33,10 @@ pub record SameLease (a b : Row) : Type 0 where
   pub number : a.n ≡ b.n
   pub range : a.range ≡ b.range
   pub machine : a.machine ≡ b.machine
+
+-- no machine has more rows than a machine may have
+abbrev pub WithinLimit : LeaseRules → List Row → Type 0
+WithinLimit rules rows = (machine : Ip4) → row_count rows machine ≤ rules.limit
 
 -- the lease stood before
 pub record Stood (before : List Row) (row : Row) : Type 0 where

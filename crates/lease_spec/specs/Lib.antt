@@ -3,3 +3,7 @@ pub mod Free
 pub mod Table
 pub mod Lives
 pub mod Holders
+pub mod Truths
+pub mod Moments
+pub mod Rises
+pub mod Once

@@ -1,5 +1,6 @@
 use Rattle.lease_spec.proofs.CauseLaws.{all_caused, lasts}
 use Rattle.lease_spec.proofs.LifeLaws.{earlier_is_gone, stands_or_gone}
+use Rattle.lease_spec.proofs.OnceLaws.{nothing_twice, own_numbers}
 use Rattle.lease_spec.proofs.laws.lives.Goals as goal
 
 pub returns-clause-caused : goal.returns-clause-caused
@@ -13,3 +14,9 @@ returns-clause-stands c = stands_or_gone
 
 pub returns-clause-one_row : goal.returns-clause-one_row
 returns-clause-one_row c = earlier_is_gone
+
+pub returns-clause-numbers : goal.returns-clause-numbers
+returns-clause-numbers c = own_numbers
+
+pub returns-clause-once : goal.returns-clause-once
+returns-clause-once c = nothing_twice
