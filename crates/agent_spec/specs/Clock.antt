@@ -1,5 +1,5 @@
 -- The clock of an agent: what is idle leaves, and what isn't answered is said again.
-use Rattle.std.specs.Prelude.{ℕ, ◌-◌, max, Bool, true, false, not, ◌&&◌, nat_le, List, [], ◌∷◌, ◌++◌, map, filter}
+use Rattle.std.specs.Prelude.{ℕ, ◌-◌, max, Bool, false, not, ◌&&◌, nat_le, List, [], ◌++◌, map, filter}
 use Rattle.std.specs.Prelude.{take, length, Option, Some, None, if◌then◌else◌}
 use Rattle.std.specs.List.{flat_map}
 use Rattle.wire_core.specs.declared.address.Ip4.{Ip4}
@@ -8,7 +8,6 @@ use Rattle.vip_config.specs.declared.parts.ConfigParts.{ConfigParts}
 use Rattle.wire_core.specs.declared.act.Act.TheVariants.{Drop}
 use Rattle.node_spec.specs.Sends.{Send, tell_all}
 use Rattle.node_spec.specs.Turns.{Turn, quiet, act_turn, says, also, each, lifted}
-use Rattle.agent_spec.specs.declared.connection.Connection.{Connection}
 use Rattle.agent_spec.specs.declared.held.Held.{Held}
 use Rattle.agent_spec.specs.declared.held.Asked.{Asked}
 use Rattle.agent_spec.specs.Connections.{is_idle}

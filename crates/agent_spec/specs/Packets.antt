@@ -16,7 +16,6 @@ use Rattle.vip_config.specs.Serving.{snat_vip}
 use Rattle.node_spec.specs.Sends.{tell}
 use Rattle.node_spec.specs.Turns.{Turn, quiet, drop_turn, note_turn, says, also}
 use Rattle.agent_spec.specs.declared.connection.Connection.{Connection}
-use Rattle.agent_spec.specs.declared.held.Asked.{Asked}
 use Rattle.agent_spec.specs.Connections.{by_private, by_public, most}
 use Rattle.agent_spec.specs.Ranges.{ports_of, first_unused}
 use Rattle.agent_spec.specs.Agent.{Agent, Host, Site, Traffic, host_of, site_at, of_traffic, of_host, of_site}

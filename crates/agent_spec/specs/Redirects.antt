@@ -1,5 +1,5 @@
 -- Connections that do without a mux from now on.
-use Rattle.std.specs.Prelude.{ℕ, ◌==◌, Bool, ◌&&◌, List, Option, Some, None, is_some, option_map, if◌then◌else◌}
+use Rattle.std.specs.Prelude.{ℕ, ◌==◌, ◌&&◌, Option, Some, None, is_some, option_map, if◌then◌else◌}
 use Rattle.wire_core.specs.declared.address.Ip4.{Ip4}
 use Rattle.wire_core.specs.declared.flow.FlowKey.{FlowKey}
 use Rattle.wire_core.specs.declared.flow.Proto.TheVariants.{Tcp}

@@ -1,5 +1,5 @@
 -- Wrapped packets from muxes and agents: they are restored, and handed to a machine.
-use Rattle.std.specs.Prelude.{ℕ, Bool, true, false, not, ◌&&◌, ◌==◌, nat_le, List, [], ◌∷◌, ◌++◌, length, slice_get}
+use Rattle.std.specs.Prelude.{ℕ, Bool, false, not, ◌&&◌, nat_le, List, [], ◌∷◌, ◌++◌, length, slice_get}
 use Rattle.std.specs.Prelude.{Option, Some, None, is_some, Result, Ok, Err, if◌then◌else◌}
 use Rattle.std.specs.List.{list_any}
 use Rattle.wire_core.specs.declared.address.Ip4.{Ip4}
@@ -23,7 +23,7 @@ use Rattle.node_spec.specs.Datagrams.{is_mux}
 use Rattle.node_spec.specs.Fastpath.{has_fastpath}
 use Rattle.node_spec.specs.Turns.{Turn, drop_turn, also, lifted}
 use Rattle.agent_spec.specs.declared.connection.Connection.{Connection}
-use Rattle.agent_spec.specs.Connections.{private_key, public_key, by_private, by_public, changed, closed, at_time, most}
+use Rattle.agent_spec.specs.Connections.{private_key, public_key, by_private, by_public, changed, closed, most}
 use Rattle.agent_spec.specs.Agent.{Agent, Traffic, with_traffic, is_own}
 use Rattle.agent_spec.specs.Traffic.{touched, closes, hand}
 
