@@ -10,7 +10,7 @@ use Rattle.packet_spec.specs.declared.fault.PacketFault.{PacketFault}
 use Rattle.packet_spec.specs.Packets.{key_of, read_packet}
 use Rattle.vip_config.specs.declared.parts.ConfigParts.{ConfigParts}
 use Rattle.wire_core.specs.declared.note.Note.TheVariants.{Queued}
-use Rattle.node_spec.specs.Causes.{packet_cause}
+use Rattle.packet_spec.specs.Causes.{packet_cause}
 use Rattle.wire_core.specs.Same.{same_ip}
 use Rattle.vip_config.specs.Serving.{snat_vip}
 use Rattle.node_spec.specs.Sends.{tell}

@@ -7,7 +7,7 @@ use Rattle.ipip.specs.declared.wrapping.WrapFault.{WrapFault}
 use Rattle.ipip.specs.Wrapping.{wrapped, wrap_fault}
 use Rattle.vip_config.specs.declared.parts.ConfigParts.{ConfigParts}
 use Rattle.wire_core.specs.declared.act.Act.TheVariants.{Open, Close, Hand}
-use Rattle.node_spec.specs.Causes.{wrap_cause}
+use Rattle.ipip.specs.Causes.{wrap_cause}
 use Rattle.vip_config.specs.Serving.{agent_with}
 use Rattle.node_spec.specs.Sends.{ToMachine, ToRouter, Carries, carry, to_agent}
 use Rattle.node_spec.specs.Turns.{Turn, quiet, drop_turn, act_turn, says, also}

@@ -16,7 +16,8 @@ use Rattle.config_text.specs.declared.vips.Member.{Member}
 use Rattle.vip_config.specs.declared.parts.ConfigParts.{ConfigParts}
 use Rattle.vip_config.specs.declared.who.Who.{Who}
 use Rattle.vip_config.specs.declared.who.Who.TheVariants as who
-use Rattle.node_spec.specs.Causes.{packet_cause, unwrap_cause}
+use Rattle.packet_spec.specs.Causes.{packet_cause}
+use Rattle.ipip.specs.Causes.{unwrap_cause}
 use Rattle.wire_core.specs.Same.{same_ip}
 use Rattle.vip_config.specs.Serving.{member_at}
 use Rattle.node_spec.specs.Datagrams.{is_mux}

@@ -130,33 +130,24 @@ fn two_appends<D: Disk>(
     }
 }
 
-// Whether two appends under a bound end so, and leave exactly these bytes.
-fn appends_end(
-    alloc: Global,
-    bound: u32,
-    want: Option<JournalFault>,
-    bytes: &[u8],
-) -> Result<bool, NoMemory> {
-    let b = MemDisk::new(alloc)?;
-    let a = MemDisk::new(alloc)?;
-    let (a, _b, fault, live) = two_appends(alloc, a, b, bound);
-    Ok(fault == want && live && is_file(a, bytes))
-}
-
-// The file of a new mux 0 with epoch 5.
-const WITH_EPOCH: &[u8] = &[
-    1, 0, 0, 0, 13, 1, 1, 2, 0, 0, 0, 0, 0, 0, 0, 0, 0, 1, 1, 0, 0, 0, 9, 5, 0, 0, 0, 0, 0, 0, 0,
-    5, 0,
-];
-
 #[test]
 fn an_append_stops_at_the_bound(rt: HostRuntime) -> Result<(), Fail> {
+    let alloc = rt.alloc();
+    let (a, _b, fault, live) = two_appends(alloc, MemDisk::new(alloc)?, MemDisk::new(alloc)?, 32);
     let full = JournalFault::Full {
         length: 19,
         body: 9,
     };
-    assert!(rt; appends_end(rt.alloc(), 32, Some(full), FILE)?);
-    assert!(rt; appends_end(rt.alloc(), 33, None, WITH_EPOCH)?);
+    assert_eq!(rt; (fault, live), (Some(full), true));
+    assert!(rt; is_file(a, FILE));
+    let (a, _b, fault, live) = two_appends(alloc, MemDisk::new(alloc)?, MemDisk::new(alloc)?, 33);
+    assert_eq!(rt; (fault, live), (None, true));
+    let mut whole = FILE.to_vec(alloc)?;
+    whole.pop();
+    whole.extend_from_slice(b"\x01\x00\x00\x00\x09")?;
+    whole.extend_from_slice(EPOCH)?;
+    whole.push(0)?;
+    assert!(rt; is_file(a, &whole));
     Ok(())
 }
 
@@ -193,54 +184,32 @@ fn is_before_or_after(
     }
 }
 
-// Whether a stop after so many disk calls, and a crash with this pick, leave a file that opens to the bodies before, or
-// to these and the epoch, which must be there where the append answered Ok.
-fn stop_leaves(
-    alloc: Global,
-    bytes: &[u8],
-    before: &[&[u8]],
-    after: &[&[u8]],
-    k: u64,
-    pick: &[u8],
-) -> Result<bool, NoMemory> {
-    let spare = Fuse::new(MemDisk::new(alloc)?, 9);
-    let fuse = Fuse::new(file(alloc, bytes)?, k);
-    let (a, _b, added, live) = stopped(alloc, fuse, spare);
-    let left = a.disk().crash(pick);
-    Ok(added == live && is_before_or_after(alloc, left, before, after, added)?)
-}
-
 #[test]
 fn a_stop_at_each_call_leaves_the_bodies_before_or_with_the_new_one(
     rt: HostRuntime,
 ) -> Result<(), Fail> {
+    let alloc = rt.alloc();
     let ones = [1u8; 80];
     let nines = [9u8; 24];
     let picks: [&[u8]; 4] = [b"", b"\x01", &ones, &nines];
     for k in 0..14 {
         for i in 0..4 {
+            let fuse = Fuse::new(file(alloc, FILE)?, k);
+            let spare = Fuse::new(MemDisk::new(alloc)?, 9);
+            let (a, _b, added, live) = stopped(alloc, fuse, spare);
+            assert_eq!(rt; added, live);
+            let left = a.disk().crash(picks[i]);
             assert!(rt;
-                stop_leaves(rt.alloc(), FILE, &[BOOT], &[BOOT, EPOCH], k, picks[i])?,
+                is_before_or_after(alloc, left, &[BOOT], &[BOOT, EPOCH], added)?,
                 "call {k}, pick {i}"
             );
-        }
-    }
-    Ok(())
-}
-
-// A closed gate, and behind it what would be an epoch cut short.
-const TORN: &[u8] = b"\x00\x00\x00\x00\x09\x05\x01";
-
-#[test]
-fn a_stop_at_each_call_leaves_an_empty_file_or_the_new_one(rt: HostRuntime) -> Result<(), Fail> {
-    let ones = [1u8; 80];
-    let nines = [9u8; 24];
-    let picks: [&[u8]; 4] = [b"", b"\x01", &ones, &nines];
-    for k in 0..14 {
-        for i in 0..4 {
+            let fuse = Fuse::new(file(alloc, b"\x00\x00\x00\x00\x09\x05\x01")?, k);
+            let spare = Fuse::new(MemDisk::new(alloc)?, 9);
+            let (a, _b, added, _live) = stopped(alloc, fuse, spare);
+            let left = a.disk().crash(picks[i]);
             assert!(rt;
-                stop_leaves(rt.alloc(), TORN, &[], &[EPOCH], k, picks[i])?,
-                "call {k}, pick {i}"
+                is_before_or_after(alloc, left, &[], &[EPOCH], added)?,
+                "empty, call {k}, pick {i}"
             );
         }
     }

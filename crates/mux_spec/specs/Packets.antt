@@ -22,7 +22,8 @@ use Rattle.vip_config.specs.declared.who.Who.TheVariants as who
 use Rattle.vip_config.specs.Leases.{lease_rules_of}
 use Rattle.node_spec.specs.Sends.{Send, Carries, tell, to_agent}
 use Rattle.node_spec.specs.Turns.{Turn, drop_turn, says}
-use Rattle.node_spec.specs.Causes.{packet_cause, wrap_cause}
+use Rattle.packet_spec.specs.Causes.{packet_cause}
+use Rattle.ipip.specs.Causes.{wrap_cause}
 use Rattle.vip_config.specs.Serving.{agent_with, is_vip}
 use Rattle.node_spec.specs.Fastpath.{has_fastpath, should_redirect}
 use Rattle.mux_spec.specs.declared.verdict.RedirectAsk.{RedirectAsk}

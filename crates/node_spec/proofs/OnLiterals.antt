@@ -1,7 +1,7 @@
 -- The words of this crate, opened where a row is computed on literals.
 use Rattle.std.specs.Prelude.{⊤}
 use Rattle.node_spec.specs.Boots.{boot_of, epoch_of}
-use Rattle.node_spec.specs.Causes.{packet_cause}
+use Rattle.packet_spec.specs.Causes.{packet_cause}
 use Rattle.node_spec.specs.Datagrams.{admitted, heard}
 use Rattle.node_spec.specs.Fastpath.{should_redirect, accept_redirect}
 use Rattle.node_spec.specs.Steps.{datagram, outgoing, body_of, onto, turned, tried}

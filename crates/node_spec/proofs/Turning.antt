@@ -23,7 +23,7 @@ flat_append f (x ∷ xs) ys = rw (flat_append f xs ys, append_assoc (f x) (flat_
 
 first_first : (e : Option (List ℕ)) (f g : Option Entry)
     → first_of (first_of e (option_map body_of f)) (option_map body_of g)
-      ≡ first_of e (option_map body_of (first_of f g))
+    ≡ first_of e (option_map body_of (first_of f g))
 first_first (Some x) f g = refl
 first_first None (Some x) g = refl
 first_first None None g = refl
@@ -114,7 +114,7 @@ also_turned keep c o t f = ap (λ (x : Step). (keep (f t.state).state, x)) (onto
 -- a turn that came to this, and then what comes after it
 pub then_turned : {S K : Type 0} (keep : S → K) (c : ConfigParts) (o p : Step) (u : S) (t : Turn S) (f : S → Turn S)
     (after : K × Step) → u ≡ t.state → p ≡ onto c o t → after ≡ turned keep c p (f u)
-      → after ≡ turned keep c o (also t f)
+    → after ≡ turned keep c o (also t f)
 then_turned keep c o p u t f after here so_far e =
     e ∙ ap (λ (x : Step). turned keep c x (f u)) so_far
     ∙ ap (λ x. turned keep c (onto c o t) (f x)) here

@@ -2,6 +2,5 @@ pub mod Sends
 pub mod Turns
 pub mod Steps
 pub mod Datagrams
-pub mod Causes
 pub mod Fastpath
 pub mod Boots

@@ -12,7 +12,6 @@
 //! | what one input makes a node do | `Turns` |
 //! | the same in bytes, and the code's step so far | `Steps` |
 //! | the common tests of a datagram | `Datagrams` |
-//! | the cause of each fault of a packet | `Causes` |
 //! | connections that may do without a mux | `Fastpath` |
 //! | a node's boot and epoch by its entries | `Boots` |
 //!

@@ -1,5 +1,4 @@
 pub mod Lines
-pub mod Causes
 pub mod Connections
 pub mod Packets
 pub mod Schedule

@@ -15,7 +15,7 @@ use Rattle.lease_spec.specs.declared.row.Row.{Row}
 use Rattle.lease_spec.specs.Table.{rule_of}
 use Rattle.port_leases.specs.TableState.{TableState, rows_of}
 use Rattle.plain_schedule.specs.declared.connections.Connection.{Connection}
-use Rattle.plain_schedule.specs.Causes.{cause_name, packet_cause}
+use Rattle.packet_spec.specs.Causes.{cause_name, packet_cause}
 use Rattle.plain_schedule.specs.Connections.{has_private, has_public, newest, standing}
 
 -- the connection with a private key, and the one with a public key

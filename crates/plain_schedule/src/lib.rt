@@ -17,7 +17,6 @@
 //! that opened its connection and no other: [`always_safe`].
 #![tactic(auto)]
 
-mod cause;
 mod choice;
 mod connections;
 mod full_leases;

@@ -6,13 +6,13 @@ ghost use Rattle.plain_schedule.specs.FullLeases.{plain};
 ghost use Rattle.plain_schedule.specs.Kept.{IsKept};
 ghost use Rattle.plain_schedule.specs.Packets.{drop_text, machine_text, public_text, replied, sent};
 
-use crate::cause::{cause_name, packet_cause};
 use crate::choice::{incoming, outgoing};
 use crate::connections::{Connection, Connections};
 use crate::full_leases::FullLeases;
 use address_text::write_address;
 use hex::encode;
 use packet_edit::{Packet, translate_destination, translate_source};
+use packet_spec::{cause_name, packet_cause};
 use port_leases::Table;
 use std::alloc::Global;
 use wire_core::{DropCause, Ip4, NoMemory};
