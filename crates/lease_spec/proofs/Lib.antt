@@ -11,3 +11,4 @@ pub mod CountLaws
 pub mod RiseLaws
 pub mod MomentLaws
 pub mod OnceLaws
+pub mod KeptLaws

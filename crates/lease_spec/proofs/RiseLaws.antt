@@ -63,7 +63,7 @@ rises_on t u v g h = record {
 
 -- ---- what is found behind a put
 
-known_put : (agent boot other : ℕ) (known : List Known) → known_boot (with_known agent boot known) other ≡ (if agent == other then boot else known_boot known other)
+pub known_put : (agent boot other : ℕ) (known : List Known) → known_boot (with_known agent boot known) other ≡ (if agent == other then boot else known_boot known other)
 known_put agent boot other [] = by_if (λ o. boot_of o ≡ (if agent == other then boot else 0)) (agent == other)
     (λ hit. rw hit refl) (λ miss. rw miss refl)
 known_put agent boot other (k ∷ known) = by (k.agent == agent) refl (known_put agent boot other known)
@@ -74,7 +74,7 @@ known_put agent boot other (k ∷ known) = by (k.agent == agent) refl (known_put
     by true is rest = grind (arith, nat_tests)
     by false is rest = grind (arith, nat_tests)
 
-last_put : (last : Last) (machine : Ip4) (lasts : List Last) → last_of (with_last last lasts) machine ≡ (if last.machine.0 == machine.0 then Some last else last_of lasts machine)
+pub last_put : (last : Last) (machine : Ip4) (lasts : List Last) → last_of (with_last last lasts) machine ≡ (if last.machine.0 == machine.0 then Some last else last_of lasts machine)
 last_put last machine [] = refl
 last_put last machine (x ∷ lasts) = by (x.machine.0 == last.machine.0) refl (last_put last machine lasts)
   where
@@ -96,7 +96,7 @@ alike t u known lasts = record {
   lasts = λ machine was e. record { now = was; there = ap (λ (ls : List Last). last_of ls machine) lasts ∙ e; later = inl refl };
 }
 
-raise_rises : (agent boot : ℕ) (t : Leases) → On t (raise_known agent boot t)
+pub raise_rises : (agent boot : ℕ) (t : Leases) → On t (raise_known agent boot t)
 unfolding raise_known
 raise_rises agent boot t = by_if (On t) (nat_lt (known_boot t.known agent) boot)
     (λ above. record {
@@ -111,7 +111,7 @@ raise_rises agent boot t = by_if (On t) (nat_lt (known_boot t.known agent) boot)
         let e : known_boot t.known agent ≡ known_boot t.known other = ap (λ (a : ℕ). known_boot t.known a) same in omega arith
     higher other false is lt = omega arith
 
-raise_lasts : (agent boot : ℕ) (t : Leases) → (raise_known agent boot t).leases.lasts ≡ t.lasts
+pub raise_lasts : (agent boot : ℕ) (t : Leases) → (raise_known agent boot t).leases.lasts ≡ t.lasts
 unfolding raise_known
 raise_lasts agent boot t = by_if (λ (d : Done). d.leases.lasts ≡ t.lasts) (nat_lt (known_boot t.known agent) boot) (λ _. refl) (λ _. refl)
 
@@ -135,7 +135,7 @@ take_rises : (place agent boot : ℕ) (machine : Ip4) (seq : ℕ) (t : Leases) (
 take_rises place agent boot machine seq t None later = noted_rises _ t _ later refl refl
 take_rises place agent boot machine seq t (Some range) later = noted_rises _ t _ later refl refl
 
-decide_rises : (rules : LeaseRules) (place boot : ℕ) (rule : MachineRule) (seq : ℕ) (t : Leases) → is_later boot seq (last_of t.lasts rule.machine) ≡ true
+pub decide_rises : (rules : LeaseRules) (place boot : ℕ) (rule : MachineRule) (seq : ℕ) (t : Leases) → is_later boot seq (last_of t.lasts rule.machine) ≡ true
     → On t (decide rules place boot rule seq t)
 unfolding decide
 decide_rises rules place boot rule seq t later = by_if (On t) (nat_le rules.limit (row_count t.rows rule.machine))
@@ -171,7 +171,7 @@ up_rises : (agent boot : ℕ) (t : Leases) → On t (up agent boot t)
 unfolding up
 up_rises agent boot t = by_if (On t) (nat_lt agent 256 && nat_lt (known_boot t.known agent) boot) (λ _. raise_rises agent boot t) (λ _. stays t)
 
-command_rises : (rules : LeaseRules) (place : ℕ) (c : LogCommand) (t : Leases) → On t (command rules place c t)
+pub command_rises : (rules : LeaseRules) (place : ℕ) (c : LogCommand) (t : Leases) → On t (command rules place c t)
 command_rises rules place (Reserve agent boot machine seq) t = reserve_rises rules place agent boot seq (rule_of rules machine) t
 command_rises rules place (Granted n muxes) t = grant_rises t (row_at t.rows n)
 command_rises rules place (Release n) t = release_rises t (row_at t.rows n)

@@ -8,7 +8,7 @@ ghost use Rattle.lease_spec.specs.Lives.{AllCaused, EarlierIsGone, Lasts, Stands
 ghost use Rattle.lease_spec.specs.Moments.{AllTrue};
 ghost use Rattle.lease_spec.specs.Once.{NothingTwice};
 ghost use Rattle.lease_spec.specs.Places.{AreShort, Ascends, Placed, commands};
-ghost use Rattle.lease_spec.specs.Rises.{AlwaysRises};
+ghost use Rattle.lease_spec.specs.Rises.{AllCurrent, AllKept, AlwaysRises};
 ghost use Rattle.lease_spec.specs.Table.{OneMore, story};
 ghost use Rattle.lease_spec.specs.Truths.{LivesInOrder, OutcomesTold, RowsTold};
 ghost use Rattle.wire_core.specs.Commands.{LogCommand};
@@ -63,7 +63,11 @@ pub fn truths()
 {}
 
 /// Whatever commands are agreed on, and whatever comes after them: the boot that is known of an agent never falls, and
-/// what is kept of a machine's last request is replaced only by a request with a later pair of boot and number.
+/// what is kept of a machine's last request is replaced only by a request with a later pair of boot and number. No
+/// request that had an effect is later than what is kept, so none has an effect twice. Where places rise, each lease
+/// that isn't Freeing is of the boot that is known of its agent.
 pub fn rises()
-    ensures { (rules : LeaseRules) (cs ds : List Placed) → AlwaysRises rules cs ds }
+    ensures on { (rules : LeaseRules) (cs ds : List Placed) → AlwaysRises rules cs ds }
+    ensures kept { (rules : LeaseRules) (cs : List Placed) → AllKept rules cs }
+    ensures current { (rules : LeaseRules) (cs : List Placed) → Ascends cs → AllCurrent rules cs }
 {}
