@@ -16,7 +16,8 @@ use Rattle.lease_spec.specs.Table.{Last, Leases, story, history, row_at, row_cou
 use Rattle.lease_spec.specs.Lives.{Causes}
 use Rattle.lease_spec.specs.Rises.{IsBefore}
 
--- a request that has an effect: the machine has a rule, its agent isn't in a later boot, its pair is later than the last
+-- a request that has an effect: the machine has a rule, its agent isn't in a later boot, its pair is later than the
+-- machine's last one
 pub record IsAsked (rules : LeaseRules) (t : Leases) (machine : Ip4) (boot seq : ℕ) (rule : MachineRule) : Type 0 where
   pub rule_is : rule_of rules machine ≡ Some rule
   pub runs : known_boot t.known rule.agent ≤ boot

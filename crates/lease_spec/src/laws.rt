@@ -16,7 +16,8 @@ ghost use Rattle.wire_core.specs.Commands.{LogCommand};
 /// The least free range of a VIP: it is leasable and without a row, and none with a lesser start is. Where there is
 /// none, each range of the VIP isn't leasable or has a row.
 pub fn least_free()
-    ensures { (rules : LeaseRules) (rows : List Row) (vip : Ip4) → IsLeastFree rules rows vip (least_free rules rows vip) }
+    ensures { (rules : LeaseRules) (rows : List Row) (vip : Ip4)
+        → IsLeastFree rules rows vip (least_free rules rows vip) }
 {}
 
 /// Whatever commands are agreed on: each effect has its command, and what was done stays done. Where their places rise,
@@ -37,11 +38,12 @@ pub fn lives()
 /// was done: a replica may apply slot by slot.
 pub fn slots()
     ensures rise { (values : List (List LogCommand)) → AreShort values → Ascends (commands values) }
-    ensures more { (rules : LeaseRules) (values : List (List LogCommand)) (value : List LogCommand) → OneMore rules values value }
+    ensures more { (rules : LeaseRules) (values : List (List LogCommand)) (value : List LogCommand)
+        → OneMore rules values value }
 {}
 
-/// Whatever commands are agreed on: no two leases that stand are on one range, each is on a leasable one, and no machine
-/// has more than the limit.
+/// Whatever commands are agreed on: no two leases that stand are on one range, each is on a leasable one, and no
+/// machine has more than the limit.
 pub fn holders()
     ensures leasable { (rules : LeaseRules) (cs : List Placed) → AllLeasable rules (story rules cs).leases.rows }
     ensures own { (rules : LeaseRules) (cs : List Placed) → OwnRanges (story rules cs).leases.rows }
@@ -52,9 +54,9 @@ pub fn holders()
 /// the phase are those of its birth, a Leased row was granted, and a Freeing one was given back or cleared. Each effect
 /// on a lease came after its birth, and its end after it was given back or cleared. What is kept of a machine's last
 /// request is what was done at it. And each effect is true of the table just before its command: a new row's range was
-/// the least free one of its machine's VIP, and the machine had room for it; a request was Exhausted where each leasable
-/// range of that VIP had a row, and AtLimit where the machine had as many rows as it may have; a lease was granted that
-/// was BeingLeased, given back or cleared that wasn't Freeing, and gone that was.
+/// the least free one of its machine's VIP, and the machine had room for it; a request was Exhausted where each
+/// leasable range of that VIP had a row, and AtLimit where the machine had as many rows as it may have; a lease was
+/// granted that was BeingLeased, given back or cleared that wasn't Freeing, and gone that was.
 pub fn truths()
     ensures rows { (rules : LeaseRules) (cs : List Placed) → RowsTold rules cs }
     ensures order { (rules : LeaseRules) (cs : List Placed) → LivesInOrder rules cs }
