@@ -8,6 +8,7 @@ pub mod HolderLaws
 pub mod TruthLaws
 pub mod OutcomeLaws
 pub mod CountLaws
-pub mod MomentLaws
 pub mod RiseLaws
+pub mod MomentLaws
 pub mod OnceLaws
+pub mod KeptLaws

@@ -24,6 +24,7 @@ use Rattle.lease_spec.proofs.MemberLaws.{each_append, each_on, each_map, each_pa
 use Rattle.lease_spec.proofs.CauseLaws.{story_of, by_command, row_number, rule_machine}
 use Rattle.lease_spec.proofs.CountLaws.{count-raised, least_free-raised}
 use Rattle.lease_spec.proofs.FreeLaws.{least_free_is}
+use Rattle.lease_spec.proofs.RiseLaws.{before}
 
 -- ---- a VIP without a free range
 
@@ -150,7 +151,7 @@ reserve_true rules place agent boot machine seq (Some rule) t e = by_if (AreTrue
     let asked : IsAsked rules t rule.machine boot seq rule = record {
       rule_is = subst (λ (m : Ip4). rule_of rules m ≡ Some rule) (sym (rule_machine rules machine rule e)) e;
       runs = subst (λ (a : ℕ). known_boot t.known a ≤ boot) (sym same) runs_on;
-      later = grind arith;
+      later = λ was at. before boot seq was (let test : is_later boot seq (last_of t.lasts rule.machine) ≡ true = grind arith in rw at at test);
     } in
     each_append (IsTrueOf rules t) (raise_known agent boot t).effects (decide rules place boot rule seq (raise_known agent boot t).leases).effects
     (raise_true rules agent boot t)

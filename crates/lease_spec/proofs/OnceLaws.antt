@@ -155,7 +155,7 @@ clears_release [] row i = i
 clears_release (x ∷ xs) row i = elim i [ inl e ↦ absurd (cc) | inr j ↦ clears_release xs row j ]
 
 -- rows with one number are one row
-own_same : (rows : List Row) (a b : Row) → OwnNumbers rows → In a rows → In b rows → a.n ≡ b.n → a ≡ b
+pub own_same : (rows : List Row) (a b : Row) → OwnNumbers rows → In a rows → In b rows → a.n ≡ b.n → a ≡ b
 own_same [] a b own i j same = absurd i
 own_same (x ∷ rows) a b own i j same = elim i [
   | inl e ↦ elim j [

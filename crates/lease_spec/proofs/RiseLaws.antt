@@ -11,27 +11,44 @@ use Rattle.wire_core.specs.Commands.{LogCommand, Reserve, Granted, Release, Free
 use Rattle.lease_spec.specs.declared.row.Row.{Row}
 use Rattle.lease_spec.specs.Places.{Placed}
 use Rattle.lease_spec.specs.Free.{least_free}
-use Rattle.lease_spec.specs.Rises.{LastRises, Rises, AlwaysRises}
+use Rattle.lease_spec.specs.Rises.{IsBefore, LastRises, Rises, AlwaysRises}
 use Rattle.lease_spec.specs.Table.{Last, Known, Leases, Done, none_done, tell, command, story, rule_of, reserve, decide, raise_known, grant, release, free, up, row_at, is_freeing, is_being, take_range, boot_of, known_boot, last_of, is_later, row_count, with_known, with_last}
 use Rattle.lease_spec.proofs.MemberLaws.{by_if}
 
 -- ---- from one table to the next
 
-pub later_on : (a b c : Last) → is_later b.boot b.seq (Some a) ≡ true → is_later c.boot c.seq (Some b) ≡ true → is_later c.boot c.seq (Some a) ≡ true
-later_on a b c p q = grind (arith, nat_tests)
+-- the test of a later pair, in plain words
+pub before : (boot seq : ℕ) (was : Last) → is_later boot seq (Some was) ≡ true → IsBefore was.boot was.seq boot seq
+before boot seq was later = by (nat_lt was.boot boot) refl
+  where
+    by : (b : Bool) → nat_lt was.boot boot ≡ b → IsBefore was.boot was.seq boot seq
+    by true is = inl (grind (arith, nat_tests))
+    by false is =
+        let same : (was.boot == boot) ≡ true = grind arith in
+        let more : nat_lt was.seq seq ≡ true = grind arith in
+        inr (grind (arith, nat_tests), grind (arith, nat_tests))
+
+before_on : (a b c : Last) → IsBefore a.boot a.seq b.boot b.seq → IsBefore b.boot b.seq c.boot c.seq → IsBefore a.boot a.seq c.boot c.seq
+before_on a b c p q = elim p [
+  | inl lt ↦ elim q [ inl lt2 ↦ inl (omega arith) | inr e ↦ inl (let same = e.0 in omega arith) ]
+  | inr e ↦ elim q [
+    | inl lt2 ↦ inl (let same = e.0 in omega arith)
+    | inr f ↦ inr (e.0 ∙ f.0, (let lt = e.1 in let lt2 = f.1 in omega arith))
+  ]
+]
 
 stays : (t : Leases) → Rises t t
 stays t = record { boots = λ agent. omega arith; lasts = λ machine was e. record { now = was; there = e; later = inl refl } }
 
-last_on : (t : Leases) (machine : Ip4) (was : Last) (mid : Last) → (mid ≡ was) ⊎ (is_later mid.boot mid.seq (Some was) ≡ true) → LastRises t machine mid → LastRises t machine was
+last_on : (t : Leases) (machine : Ip4) (was : Last) (mid : Last) → (mid ≡ was) ⊎ IsBefore was.boot was.seq mid.boot mid.seq → LastRises t machine mid → LastRises t machine was
 last_on t machine was mid first next = record {
   now = next.now;
   there = next.there;
   later = elim first [
-    | inl same ↦ subst (λ (x : Last). (next.now ≡ x) ⊎ (is_later next.now.boot next.now.seq (Some x) ≡ true)) same next.later
+    | inl same ↦ subst (λ (x : Last). (next.now ≡ x) ⊎ IsBefore x.boot x.seq next.now.boot next.now.seq) same next.later
     | inr later ↦ elim next.later [
-      | inl same2 ↦ inr (subst (λ (x : Last). is_later x.boot x.seq (Some was) ≡ true) (sym same2) later)
-      | inr later2 ↦ inr (later_on was mid next.now later later2)
+      | inl same2 ↦ inr (subst (λ (x : Last). IsBefore was.boot was.seq x.boot x.seq) (sym same2) later)
+      | inr later2 ↦ inr (before_on was mid next.now later later2)
     ]
   ];
 }
@@ -46,7 +63,7 @@ rises_on t u v g h = record {
 
 -- ---- what is found behind a put
 
-known_put : (agent boot other : ℕ) (known : List Known) → known_boot (with_known agent boot known) other ≡ (if agent == other then boot else known_boot known other)
+pub known_put : (agent boot other : ℕ) (known : List Known) → known_boot (with_known agent boot known) other ≡ (if agent == other then boot else known_boot known other)
 known_put agent boot other [] = by_if (λ o. boot_of o ≡ (if agent == other then boot else 0)) (agent == other)
     (λ hit. rw hit refl) (λ miss. rw miss refl)
 known_put agent boot other (k ∷ known) = by (k.agent == agent) refl (known_put agent boot other known)
@@ -57,7 +74,7 @@ known_put agent boot other (k ∷ known) = by (k.agent == agent) refl (known_put
     by true is rest = grind (arith, nat_tests)
     by false is rest = grind (arith, nat_tests)
 
-last_put : (last : Last) (machine : Ip4) (lasts : List Last) → last_of (with_last last lasts) machine ≡ (if last.machine.0 == machine.0 then Some last else last_of lasts machine)
+pub last_put : (last : Last) (machine : Ip4) (lasts : List Last) → last_of (with_last last lasts) machine ≡ (if last.machine.0 == machine.0 then Some last else last_of lasts machine)
 last_put last machine [] = refl
 last_put last machine (x ∷ lasts) = by (x.machine.0 == last.machine.0) refl (last_put last machine lasts)
   where
@@ -79,7 +96,7 @@ alike t u known lasts = record {
   lasts = λ machine was e. record { now = was; there = ap (λ (ls : List Last). last_of ls machine) lasts ∙ e; later = inl refl };
 }
 
-raise_rises : (agent boot : ℕ) (t : Leases) → On t (raise_known agent boot t)
+pub raise_rises : (agent boot : ℕ) (t : Leases) → On t (raise_known agent boot t)
 unfolding raise_known
 raise_rises agent boot t = by_if (On t) (nat_lt (known_boot t.known agent) boot)
     (λ above. record {
@@ -94,7 +111,7 @@ raise_rises agent boot t = by_if (On t) (nat_lt (known_boot t.known agent) boot)
         let e : known_boot t.known agent ≡ known_boot t.known other = ap (λ (a : ℕ). known_boot t.known a) same in omega arith
     higher other false is lt = omega arith
 
-raise_lasts : (agent boot : ℕ) (t : Leases) → (raise_known agent boot t).leases.lasts ≡ t.lasts
+pub raise_lasts : (agent boot : ℕ) (t : Leases) → (raise_known agent boot t).leases.lasts ≡ t.lasts
 unfolding raise_known
 raise_lasts agent boot t = by_if (λ (d : Done). d.leases.lasts ≡ t.lasts) (nat_lt (known_boot t.known agent) boot) (λ _. refl) (λ _. refl)
 
@@ -110,7 +127,7 @@ noted_rises last t u later known lasts = record {
     by machine was e true is there =
         let same : last.machine.0 ≡ machine.0 = grind (arith, nat_tests) in
         let found : last_of t.lasts last.machine ≡ Some was = ap (λ (a : ℕ). find (λ (x : Last). x.machine.0 == a) t.lasts) same ∙ e in
-        record { now = last; there = there; later = inr (rw found at later) }
+        record { now = last; there = there; later = inr (before last.boot last.seq was (rw found at later)) }
     by machine was e false is there = record { now = was; there = there ∙ e; later = inl refl }
 
 take_rises : (place agent boot : ℕ) (machine : Ip4) (seq : ℕ) (t : Leases) (o : Option Range) → is_later boot seq (last_of t.lasts machine) ≡ true
@@ -118,7 +135,7 @@ take_rises : (place agent boot : ℕ) (machine : Ip4) (seq : ℕ) (t : Leases) (
 take_rises place agent boot machine seq t None later = noted_rises _ t _ later refl refl
 take_rises place agent boot machine seq t (Some range) later = noted_rises _ t _ later refl refl
 
-decide_rises : (rules : LeaseRules) (place boot : ℕ) (rule : MachineRule) (seq : ℕ) (t : Leases) → is_later boot seq (last_of t.lasts rule.machine) ≡ true
+pub decide_rises : (rules : LeaseRules) (place boot : ℕ) (rule : MachineRule) (seq : ℕ) (t : Leases) → is_later boot seq (last_of t.lasts rule.machine) ≡ true
     → On t (decide rules place boot rule seq t)
 unfolding decide
 decide_rises rules place boot rule seq t later = by_if (On t) (nat_le rules.limit (row_count t.rows rule.machine))
@@ -154,7 +171,7 @@ up_rises : (agent boot : ℕ) (t : Leases) → On t (up agent boot t)
 unfolding up
 up_rises agent boot t = by_if (On t) (nat_lt agent 256 && nat_lt (known_boot t.known agent) boot) (λ _. raise_rises agent boot t) (λ _. stays t)
 
-command_rises : (rules : LeaseRules) (place : ℕ) (c : LogCommand) (t : Leases) → On t (command rules place c t)
+pub command_rises : (rules : LeaseRules) (place : ℕ) (c : LogCommand) (t : Leases) → On t (command rules place c t)
 command_rises rules place (Reserve agent boot machine seq) t = reserve_rises rules place agent boot seq (rule_of rules machine) t
 command_rises rules place (Granted n muxes) t = grant_rises t (row_at t.rows n)
 command_rises rules place (Release n) t = release_rises t (row_at t.rows n)

@@ -1,4 +1,5 @@
--- Who holds a range: no two leases are on one, each is on a leasable range, and a lease that stands is the one that it was.
+-- Who holds a range: no two leases are on one, each is on a leasable range, no machine has too many, and a lease that
+-- stands is the one that it was.
 use Rattle.std.specs.Prelude.{ℕ, ◌≡◌, ◌≢◌, ◌<◌, ◌≤◌, true, List, [], ◌∷◌, Some}
 use Rattle.wire_core.specs.declared.address.Ip4.{Ip4}
 use Rattle.wire_core.specs.declared.rules.LeaseRules.{LeaseRules}

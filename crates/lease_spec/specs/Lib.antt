@@ -4,6 +4,6 @@ pub mod Table
 pub mod Lives
 pub mod Holders
 pub mod Truths
-pub mod Moments
 pub mod Rises
+pub mod Moments
 pub mod Once

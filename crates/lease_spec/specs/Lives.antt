@@ -42,7 +42,8 @@ RaisesAbove (Freed n) a b = ⊥
 -- The command that an effect comes from.
 abbrev pub Causes : Placed → Effect → Type 0
 Causes c (effect.Reserved row) = (c.place ≡ row.n) × (c.command ≡ Reserve row.agent row.boot row.machine row.seq)
-Causes c (effect.Exhausted machine boot seq place) = (agent : ℕ) × (c.place ≡ place) × (c.command ≡ Reserve agent boot machine seq)
+Causes c (effect.Exhausted machine boot seq place) =
+    (agent : ℕ) × (c.place ≡ place) × (c.command ≡ Reserve agent boot machine seq)
 Causes c (effect.AtLimit machine boot seq count) = (agent : ℕ) × (c.command ≡ Reserve agent boot machine seq)
 Causes c (effect.Granted row) = (muxes : List MuxBoot) × (c.command ≡ Granted row.n muxes)
 Causes c (effect.Released row) = c.command ≡ Release row.n
@@ -66,7 +67,8 @@ Lasts rules cs ds = (more : List Effect) × (history rules (cs ++ ds) ≡ histor
 -- Of two leases on one range the earlier one is gone.
 abbrev pub EarlierIsGone : LeaseRules → List Placed → Type 0
 EarlierIsGone rules cs =
-    (n m : ℕ) (a b : Row) → Birth (history rules cs) n a → Birth (history rules cs) m b → n < m → a.range ≡ b.range → IsGone (history rules cs) n
+    (n m : ℕ) (a b : Row) → Birth (history rules cs) n a → Birth (history rules cs) m b → n < m → a.range ≡ b.range
+    → IsGone (history rules cs) n
 
 -- a row with its number and range stands in the table
 pub record Standing (rows : List Row) (born : Row) : Type 0 where
@@ -78,4 +80,5 @@ pub record Standing (rows : List Row) (born : Row) : Type 0 where
 -- Each lease that was born stands or is gone.
 abbrev pub StandsOrGone : LeaseRules → List Placed → Type 0
 StandsOrGone rules cs =
-    (n : ℕ) (born : Row) → Birth (history rules cs) n born → Standing (story rules cs).leases.rows born ⊎ IsGone (history rules cs) n
+    (n : ℕ) (born : Row) → Birth (history rules cs) n born
+    → Standing (story rules cs).leases.rows born ⊎ IsGone (history rules cs) n

@@ -12,14 +12,16 @@ use Rattle.lease_spec.specs.declared.effect.Effect.{Effect}
 use Rattle.lease_spec.specs.declared.effect.Effect.TheVariants as effect
 use Rattle.lease_spec.specs.Places.{Placed}
 use Rattle.lease_spec.specs.Free.{IsLeast}
-use Rattle.lease_spec.specs.Table.{Leases, story, history, row_at, row_count, rule_of, known_boot, last_of, is_later, at_phase}
+use Rattle.lease_spec.specs.Table.{Last, Leases, story, history, row_at, row_count, rule_of, known_boot, last_of, at_phase}
 use Rattle.lease_spec.specs.Lives.{Causes}
+use Rattle.lease_spec.specs.Rises.{IsBefore}
 
--- a request that has an effect: the machine has a rule, its agent isn't in a later boot, its pair is later than the last
+-- a request that has an effect: the machine has a rule, its agent isn't in a later boot, its pair is later than the
+-- machine's last one
 pub record IsAsked (rules : LeaseRules) (t : Leases) (machine : Ip4) (boot seq : ℕ) (rule : MachineRule) : Type 0 where
   pub rule_is : rule_of rules machine ≡ Some rule
   pub runs : known_boot t.known rule.agent ≤ boot
-  pub later : is_later boot seq (last_of t.lasts machine) ≡ true
+  pub later : (was : Last) → last_of t.lasts machine ≡ Some was → IsBefore was.boot was.seq boot seq
 
 -- the row is its agent's and machine's, the machine has room for it, and its range was the least free one of the VIP
 pub record IsBirth (rules : LeaseRules) (t : Leases) (row : Row) : Type 0 where

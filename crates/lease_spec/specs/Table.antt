@@ -121,11 +121,21 @@ raise_known agent boot t =
     else nothing t
 
 abbrev pub new_row : ℕ → Range → Ip4 → ℕ → ℕ → ℕ → Row
-new_row place range machine agent boot seq = record { n = place; range = range; machine = machine; agent = agent; boot = boot; seq = seq; phase = BeingLeased }
+new_row place range machine agent boot seq = record {
+  n = place;
+  range = range;
+  machine = machine;
+  agent = agent;
+  boot = boot;
+  seq = seq;
+  phase = BeingLeased;
+}
 
 -- what a request came to is the machine's last outcome
 abbrev pub noted : Ip4 → ℕ → ℕ → Outcome → Leases → Leases
-noted machine boot seq outcome t = record t { lasts = with_last (record { machine = machine; boot = boot; seq = seq; outcome = outcome }) t.lasts }
+noted machine boot seq outcome t = record t {
+  lasts = with_last (record { machine = machine; boot = boot; seq = seq; outcome = outcome }) t.lasts;
+}
 
 -- A request for which a range is sought: Exhausted, or a row on the range that was found.
 abbrev pub take_range : ℕ → ℕ → ℕ → Ip4 → ℕ → Leases → Option Range → Done
@@ -134,7 +144,9 @@ take_range place agent boot machine seq t None = record {
   effects = effect.Exhausted machine boot seq place ∷ [];
 }
 take_range place agent boot machine seq t (Some range) = record {
-  leases = noted machine boot seq (outcome.Reserved range place) (record t { rows = t.rows ++ new_row place range machine agent boot seq ∷ [] });
+  leases = noted machine boot seq (outcome.Reserved range place) (record t {
+    rows = t.rows ++ new_row place range machine agent boot seq ∷ [];
+  });
   effects = effect.Reserved (new_row place range machine agent boot seq) ∷ [];
 }
 
@@ -152,7 +164,8 @@ decide rules place boot rule seq t =
 unfoldable pub reserve : LeaseRules → ℕ → ℕ → ℕ → ℕ → Option MachineRule → Leases → Done
 reserve rules place agent boot seq None t = nothing t
 reserve rules place agent boot seq (Some rule) t =
-    if (rule.agent == agent) && nat_le (known_boot t.known agent) boot && is_later boot seq (last_of t.lasts rule.machine)
+    if (rule.agent == agent) && nat_le (known_boot t.known agent) boot
+    && is_later boot seq (last_of t.lasts rule.machine)
     then next (raise_known agent boot t) (decide rules place boot rule seq)
     else nothing t
 
@@ -160,28 +173,40 @@ unfoldable pub grant : Leases → Option Row → Done
 grant t None = nothing t
 grant t (Some row) =
     if is_being row.phase
-    then record { leases = record t { rows = move row.n Leased t.rows }; effects = effect.Granted (at_phase Leased row) ∷ [] }
+    then record {
+      leases = record t { rows = move row.n Leased t.rows };
+      effects = effect.Granted (at_phase Leased row) ∷ [];
+    }
     else nothing t
 
 unfoldable pub release : Leases → Option Row → Done
 release t None = nothing t
 release t (Some row) =
     if not (is_freeing row.phase)
-    then record { leases = record t { rows = move row.n Freeing t.rows }; effects = effect.Released (at_phase Freeing row) ∷ [] }
+    then record {
+      leases = record t { rows = move row.n Freeing t.rows };
+      effects = effect.Released (at_phase Freeing row) ∷ [];
+    }
     else nothing t
 
 unfoldable pub free : Leases → Option Row → Done
 free t None = nothing t
 free t (Some row) =
     if is_freeing row.phase
-    then record { leases = record t { rows = filter (λ other. not (other.n == row.n)) t.rows }; effects = effect.Freed row ∷ [] }
+    then record {
+      leases = record t { rows = filter (λ other. not (other.n == row.n)) t.rows };
+      effects = effect.Freed row ∷ [];
+    }
     else nothing t
 
 -- An agent below 256 in a higher boot than the known one.
 unfoldable pub up : ℕ → ℕ → Leases → Done
 up agent boot t =
     if nat_lt agent 256 && nat_lt (known_boot t.known agent) boot
-    then record { leases = (raise_known agent boot t).leases; effects = effect.Known agent boot ∷ (raise_known agent boot t).effects }
+    then record {
+      leases = (raise_known agent boot t).leases;
+      effects = effect.Known agent boot ∷ (raise_known agent boot t).effects;
+    }
     else nothing t
 
 -- One command at its place.
@@ -220,4 +245,5 @@ pub record OneMore (rules : LeaseRules) (values : List (List LogCommand)) (value
   pub leaves : table rules (values ++ value ∷ [])
       ≡ (apply rules (slot_commands (length values) value) (table rules values)).leases
   pub does : history rules (commands (values ++ value ∷ []))
-      ≡ history rules (commands values) ++ (apply rules (slot_commands (length values) value) (table rules values)).effects
+      ≡ history rules (commands values)
+      ++ (apply rules (slot_commands (length values) value) (table rules values)).effects

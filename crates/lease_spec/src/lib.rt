@@ -14,11 +14,11 @@
 //!
 //! The table says what stands now. The effects say all that was ever done, in order: they are the history of which
 //! every safety fact above speaks. What was done stays done, each effect has its command, a lease that was born stands
-//! or is gone, of two leases on one range the earlier one is gone, and nothing comes back: [`lives`]. No two leases that stand are on one
-//! range, and no machine has more than the limit: [`holders`]. Rows and outcomes say what was done, and effects come in
-//! the order of a life, each true of the table just before its command: [`truths`]. Known boots and last pairs only
-//! rise: [`rises`]. What the least free range is says [`least_free`], and that a table grows slot by slot says
-//! [`slots`].
+//! or is gone, of two leases on one range the earlier one is gone, and nothing comes back: [`lives`]. No two leases
+//! that stand are on one range, and no machine has more than the limit: [`holders`]. Rows and outcomes say what was
+//! done, and effects come in the order of a life, each true of the table just before its command: [`truths`]. Known
+//! boots and last pairs only rise: [`rises`]. What the least free range is says [`least_free`], and that a table grows
+//! slot by slot says [`slots`].
 #![tactic(auto)]
 
 mod effect;
