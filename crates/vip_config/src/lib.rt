@@ -48,4 +48,6 @@ pub use rules::broken_rules;
 pub use who::Who;
 
 #[cfg(test)]
+mod rule_tests;
+#[cfg(test)]
 mod tests;
