@@ -131,11 +131,11 @@ own_address a = grind (arith, nat_tests)
 pub own_socket : (a : Socket) → same_socket a a ≡ true
 own_socket a = grind (arith, nat_tests)
 
-flat_single : {X : Type 0} (xs : List X) → flat_map (λ x. x ∷ []) xs ≡ xs
+pub flat_single : {X : Type 0} (xs : List X) → flat_map (λ x. x ∷ []) xs ≡ xs
 flat_single [] = refl
 flat_single (x ∷ xs) = ap (λ l. x ∷ l) (flat_single xs)
 
-flat_of : {A X : Type 0} (f : A → X) (xs : List A) → flat_map (λ x. f x ∷ []) xs ≡ map f xs
+pub flat_of : {A X : Type 0} (f : A → X) (xs : List A) → flat_map (λ x. f x ∷ []) xs ≡ map f xs
 flat_of f [] = refl
 flat_of f (x ∷ xs) = ap (λ l. f x ∷ l) (flat_of f xs)
 
@@ -145,7 +145,7 @@ machine_keys agents =
     (λ i agent. keys_claims (address_claims i) (λ machine. machine.address ∷ []) (λ j machine. refl) 0 agent.machines ∙ flat_of (λ machine. machine.address) agent.machines)
     0 agents
 
-agent_keys : (i : ℕ) (agent : AgentConf) → keys (agent_claims i agent) ≡ agent_sockets agent
+pub agent_keys : (i : ℕ) (agent : AgentConf) → keys (agent_claims i agent) ≡ agent_sockets agent
 agent_keys i agent =
     ap (λ l. agent.socket ∷ l) (keys_claims (attach_claims i) (λ machine. machine.attach ∷ []) (λ j machine. refl) 0 agent.machines ∙ flat_of (λ machine. machine.attach) agent.machines)
 
@@ -177,11 +177,11 @@ machine_test agents a = sym (claimed_keys same_address (same_address a) (machine
 
 -- ---- VIPs
 
-same_vips : (xs : List VipText) → flat_map (λ vip. vip.address ∷ []) xs ≡ map (λ vip. vip.address) (map vip_conf_of xs)
+pub same_vips : (xs : List VipText) → flat_map (λ vip. vip.address ∷ []) xs ≡ map (λ vip. vip.address) (map vip_conf_of xs)
 same_vips [] = refl
 same_vips (x ∷ xs) = ap (λ l. x.address ∷ l) (same_vips xs)
 
-same_snat : (xs : List VipText) → flat_map (λ vip. vip.snat) xs ≡ flat_map (λ vip. vip.snat) (map vip_conf_of xs)
+pub same_snat : (xs : List VipText) → flat_map (λ vip. vip.snat) xs ≡ flat_map (λ vip. vip.snat) (map vip_conf_of xs)
 same_snat [] = refl
 same_snat (x ∷ xs) = ap (λ l. x.snat ++ l) (same_snat xs)
 
@@ -276,7 +276,7 @@ module _ (machines : List (Ip4 × ℕ)) where
       subst (Each P) (flat_of (λ member. member.address) e.machines)
       (each_claims (λ c. c.fits ≡ true) P (member_claims machines i j e.proto) (λ member. member.address ∷ []) (λ k member h. (there member.address h.1.0, tt)) 0 e.machines h.1)
 
-same_machine_ports : (xs : List VipText) → flat_map (λ vip. flat_map machine_ports vip.endpoints) xs ≡ flat_map (λ vip. flat_map machine_ports vip.endpoints) (map vip_conf_of xs)
+pub same_machine_ports : (xs : List VipText) → flat_map (λ vip. flat_map machine_ports vip.endpoints) xs ≡ flat_map (λ vip. flat_map machine_ports vip.endpoints) (map vip_conf_of xs)
 same_machine_ports [] = refl
 same_machine_ports (x ∷ xs) = ap (λ l. flat_map machine_ports x.endpoints ++ l) (same_machine_ports xs)
 
@@ -335,7 +335,7 @@ keeps_rules s none =
       machine_ports = subst Once (same_machine_ports s.vips) (all_once machines s.vips endpoints.once);
     }
 
-each_on : {X : Type 0} (P Q : X → Type 0) → ((x : X) → P x → Q x) → (xs : List X) → Each P xs → Each Q xs
+pub each_on : {X : Type 0} (P Q : X → Type 0) → ((x : X) → P x → Q x) → (xs : List X) → Each P xs → Each Q xs
 each_on P Q f [] h = tt
 each_on P Q f (x ∷ xs) h = (f x h.0, each_on P Q f xs h.1)
 

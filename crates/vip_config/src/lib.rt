@@ -16,6 +16,7 @@
 //! | `index` | the rules in their order; the maps of the first two walks | |
 //! | `parts`, `narrow` | the values of a configuration; ports as port numbers | |
 //! | `config` | [`Config`]: the public calls | |
+//! | `rules` | [`broken_rules`]: the rules are broken exactly where their plain words do not hold | |
 //! | `leases`, `counts`, `copies` | the rules of leasing, numbers of members, a copy | |
 //!
 //! A [`Config`] is seen as its parts. That it keeps the rules is [`Config::keeps_rules`]. Whose a socket is and of which
@@ -33,6 +34,7 @@ mod machines;
 mod narrow;
 mod parts;
 mod place;
+mod rules;
 mod snat;
 mod sockets;
 mod vips;
@@ -42,7 +44,10 @@ mod who;
 pub use config::Config;
 pub use counts::Counts;
 pub use parts::{ConfigParts, VipConf, VipList};
+pub use rules::broken_rules;
 pub use who::Who;
 
+#[cfg(test)]
+mod rule_tests;
 #[cfg(test)]
 mod tests;

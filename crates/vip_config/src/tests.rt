@@ -1,5 +1,4 @@
 use crate::{Config, Counts, Who};
-use config_text::ConfigFault;
 use std::alloc::{AllocError, Global};
 use std::test::Fail;
 use wire_core::{Ip4, LeaseRules, MachineRule, NodeId, Range, Socket};
@@ -160,48 +159,5 @@ fn an_endpoint_takes_its_range(rt: HostRuntime) -> Result<(), Fail> {
             vip: VIP
         })
     );
-    Ok(())
-}
-
-/// The small configuration with the first of this text replaced.
-fn with(alloc: Global, old: &str, new: &str) -> Result<String, AllocError> {
-    match SMALL.split_once(old) {
-        Some((front, rest)) => format!(in alloc; "{front}{new}{rest}"),
-        None => Ok(String::new(alloc)),
-    }
-}
-
-/// The path of the member that breaks a rule; empty where none does.
-fn path_of(alloc: Global, text: &[u8]) -> Result<String, AllocError> {
-    match Config::read(alloc, text) {
-        Ok(_) => Ok(String::new(alloc)),
-        Err(ConfigFault::Field(path)) => Ok(path),
-        Err(_) => Err(AllocError),
-    }
-}
-
-#[test]
-fn the_first_rule_that_is_broken(rt: HostRuntime) -> Result<(), Fail> {
-    for (old, new, path) in [
-        ("10.9.0.1:7000", "10.0.0.3:7000", "muxes[0]"),
-        ("10.0.0.2:7000", "10.7.0.1:7000", "replicas[1]"),
-        ("192.0.2.10", "10.1.0.4", "vips[0].address"),
-        ("1024", "1025", "vips[0].low"),
-        ("65535", "1024", "vips[0].high"),
-        (
-            "[\"10.1.0.4\"]",
-            "[\"10.1.0.4\",\"10.1.0.6\"]",
-            "vips[0].snat[1]",
-        ),
-        (
-            "[\"10.1.0.4\"]",
-            "[\"10.1.0.4\",\"10.1.0.4\"]",
-            "vips[0].snat[1]",
-        ),
-    ] {
-        let text = with(rt.alloc(), old, new)?;
-        let found = path_of(rt.alloc(), text.as_bytes())?;
-        assert_eq!(rt; found.as_str(), path);
-    }
     Ok(())
 }

@@ -1,0 +1,12 @@
+use Rattle.vip_config.proofs.Laws.{keeps_rules}
+use Rattle.vip_config.proofs.Unbroken.{breaks_none, is_read}
+use Rattle.vip_config.proofs.rules.broken_rules.Goals as goal
+
+pub returns-clause-keeps : goal.returns-clause-keeps
+returns-clause-keeps c = keeps_rules
+
+pub returns-clause-breaks_none : goal.returns-clause-breaks_none
+returns-clause-breaks_none c = breaks_none
+
+pub returns-clause-read : goal.returns-clause-read
+returns-clause-read c = is_read
