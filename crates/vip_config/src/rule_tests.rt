@@ -4,8 +4,20 @@ use std::alloc::{AllocError, Global};
 use std::test::Fail;
 
 /// Two muxes, two agents with two machines and one, two VIPs with two endpoints and one. It keeps every rule.
-const WHOLE: &str =
-    r#"{"version":1,"router":"10.7.0.1:7000","replicas":["10.0.0.1:7000","10.0.0.2:7000","10.0.0.3:7000","10.0.0.4:7000","10.0.0.5:7000"],"muxes":["10.9.0.1:7000","10.9.0.2:7000"],"agents":[{"socket":"10.8.0.1:7000","machines":[{"address":"10.1.0.4","attach":"10.1.0.4:9000"},{"address":"10.1.0.5","attach":"10.1.0.5:9000"}]},{"socket":"10.8.0.2:7000","machines":[{"address":"10.1.0.6","attach":"10.1.0.6:9000"}]}],"vips":[{"address":"192.0.2.10","low":1024,"high":1087,"snat":["10.1.0.4","10.1.0.5"],"endpoints":[{"proto":"tcp","port":80,"machines":[{"address":"10.1.0.4","port":8080},{"address":"10.1.0.5","port":8081}]},{"proto":"udp","port":80,"machines":[{"address":"10.1.0.4","port":8080}]}]},{"address":"192.0.2.11","low":2048,"high":65535,"snat":["10.1.0.6"],"endpoints":[{"proto":"tcp","port":80,"machines":[{"address":"10.1.0.6","port":8082}]}]}],"limit":16,"timers":{"lead_silent":1000,"mux_silent":5000,"ask_retry":500,"flow_idle":60000,"range_idle":30000}}"#;
+const WHOLE: &str = r#"{"version":1,"router":"10.7.0.1:7000",
+"replicas":["10.0.0.1:7000","10.0.0.2:7000","10.0.0.3:7000","10.0.0.4:7000","10.0.0.5:7000"],
+"muxes":["10.9.0.1:7000","10.9.0.2:7000"],
+"agents":[{"socket":"10.8.0.1:7000","machines":[{"address":"10.1.0.4","attach":"10.1.0.4:9000"},
+{"address":"10.1.0.5","attach":"10.1.0.5:9000"}]},
+{"socket":"10.8.0.2:7000","machines":[{"address":"10.1.0.6","attach":"10.1.0.6:9000"}]}],
+"vips":[{"address":"192.0.2.10","low":1024,"high":1087,
+"snat":["10.1.0.4","10.1.0.5"],
+"endpoints":[{"proto":"tcp","port":80,"machines":[{"address":"10.1.0.4","port":8080},
+{"address":"10.1.0.5","port":8081}]},
+{"proto":"udp","port":80,"machines":[{"address":"10.1.0.4","port":8080}]}]},
+{"address":"192.0.2.11","low":2048,"high":65535,
+"snat":["10.1.0.6"],"endpoints":[{"proto":"tcp","port":80,"machines":[{"address":"10.1.0.6","port":8082}]}]}],
+"limit":16,"timers":{"lead_silent":1000,"mux_silent":5000,"ask_retry":500,"flow_idle":60000,"range_idle":30000}}"#;
 
 /// The text with the first `old` replaced; empty, and so no JSON, where there is none.
 fn with(alloc: Global, text: &str, old: &str, new: &str) -> Result<String, AllocError> {
