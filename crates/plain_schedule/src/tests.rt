@@ -1,5 +1,5 @@
 use crate::{PlainFault, plain_lines};
-use std::alloc::AllocError;
+use std::alloc::{AllocError, Global};
 use std::test::Fail;
 
 #[test]
@@ -132,6 +132,17 @@ fn sent(text: &mut String, sport: u16) -> Result<(), AllocError> {
     )
 }
 
+/// Whether a text of less than a megabyte prints this.
+fn prints(alloc: Global, text: &[u8], wanted: &[u8]) -> bool {
+    if text.len() >= 1 << 20 {
+        return false;
+    }
+    match plain_lines(alloc, text) {
+        Ok(lines) => lines.as_bytes() == wanted,
+        Err(_) => false,
+    }
+}
+
 #[test]
 fn leases_that_are_full_and_end(rt: HostRuntime) -> Result<(), Fail> {
     let alloc = rt.alloc();
@@ -161,9 +172,7 @@ fn leases_that_are_full_and_end(rt: HostRuntime) -> Result<(), Fail> {
     send(&mut text, 5008)?;
     wanted.push_str("freed 17\n")?;
     sent(&mut wanted, 1025)?;
-    match plain_lines(alloc, text.as_bytes()) {
-        Ok(lines) => assert_eq!(rt; lines.as_bytes(), wanted.as_bytes()),
-        Err(_) => return Err(Fail::from("refused")),
-    }
+    let printed = prints(alloc, text.as_bytes(), wanted.as_bytes());
+    assert!(rt; printed);
     Ok(())
 }
