@@ -1,4 +1,4 @@
-use crate::{Effect, Outcome, Phase, Table};
+use crate::{Effect, Outcome, Table};
 use std::alloc::Global;
 use std::test::Fail;
 use wire_core::{
@@ -253,84 +253,5 @@ fn rules_grow(rt: HostRuntime) -> Result<(), Fail> {
     grow(rt.alloc(), &mut table, Ip4(1), Ip4(2))?;
     reserve(rt.alloc(), &mut table, &mut out, Ip4(2), 1)?;
     assert_eq!(rt; out.as_str(), "reserved 1 2048\n");
-    Ok(())
-}
-
-/// Four leases of two machines, of which one left and one ends.
-fn come_and_go(alloc: Global, table: &mut Table, out: &mut String) -> Result<(), Fail> {
-    reserve(alloc, table, out, A, 1)?;
-    reserve(alloc, table, out, B, 1)?;
-    reserve(alloc, table, out, A, 2)?;
-    reserve(alloc, table, out, A, 3)?;
-    release(alloc, table, out, 33)?;
-    free(alloc, table, out, 33)?;
-    release(alloc, table, out, 17)
-}
-
-/// The numbers of the machine's rows, by a walk.
-fn walk_machine(table: &Table, out: &mut String, machine: Ip4) -> Result<(), Fail> {
-    let mut above = 0;
-    for _ in 0..4 {
-        if let Some(row) = table.next_row_of(machine, above) {
-            write!(out, " {}", row.n)?;
-            above = row.n;
-        }
-    }
-    Ok(())
-}
-
-/// The numbers of the rows in this phase, by a walk.
-fn walk_phase(table: &Table, out: &mut String, phase: Phase) -> Result<(), Fail> {
-    let mut above = 0;
-    for _ in 0..4 {
-        if let Some(row) = table.next_in(phase, above) {
-            write!(out, " {}", row.n)?;
-            above = row.n;
-        }
-    }
-    Ok(())
-}
-
-/// The numbers of all rows, by a walk.
-fn walk_all(table: &Table, out: &mut String) -> Result<(), Fail> {
-    let mut above = 0;
-    for _ in 0..4 {
-        if let Some(row) = table.next_row(above) {
-            write!(out, " {}", row.n)?;
-            above = row.n;
-        }
-    }
-    Ok(())
-}
-
-/// Each walk over the table.
-fn walk(table: &Table, out: &mut String) -> Result<(), Fail> {
-    walk_machine(table, out, A)?;
-    walk_machine(table, out, B)?;
-    walk_phase(table, out, Phase::BeingLeased)?;
-    walk_phase(table, out, Phase::Freeing)?;
-    walk_phase(table, out, Phase::Leased)?;
-    walk_all(table, out)
-}
-
-#[test]
-fn walks_meet_each_row(rt: HostRuntime) -> Result<(), Fail> {
-    let mut told = String::new(rt.alloc());
-    let mut out = String::new(rt.alloc());
-    let mut table = table(rt.alloc(), 16, 1024, 65535, &[])?;
-    come_and_go(rt.alloc(), &mut table, &mut told)?;
-    walk(&table, &mut out)?;
-    assert_eq!(rt; out.as_str(), " 1 49 17 1 49 17 1 17 49");
-    assert_eq!(rt; table.len(), 3);
-    Ok(())
-}
-
-#[test]
-fn a_walk_begins_between_rows(rt: HostRuntime) -> Result<(), Fail> {
-    let mut told = String::new(rt.alloc());
-    let mut table = table(rt.alloc(), 16, 1024, 65535, &[])?;
-    come_and_go(rt.alloc(), &mut table, &mut told)?;
-    let next = table.next_row_of(A, 17);
-    assert_eq!(rt; next, table.row(49));
     Ok(())
 }
