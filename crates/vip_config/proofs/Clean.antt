@@ -136,7 +136,8 @@ pub flat_keys : {K V Z : Type 0} (g : K → List Z) (cs : List (Claim K V))
 flat_keys g [] = refl
 flat_keys g (c ∷ cs) = ap (λ l. g c.key ++ l) (flat_keys g cs)
 
-pub in_flat : {X Y : Type 0} (g : X → List Y) (xs : List X) (x : X) (y : Y) → In x xs → In y (g x) → In y (flat_map g xs)
+pub in_flat : {X Y : Type 0} (g : X → List Y) (xs : List X) (x : X) (y : Y) → In x xs → In y (g x)
+    → In y (flat_map g xs)
 in_flat g [] x y i j = absurd i
 in_flat g (z ∷ xs) x y i j =
     elim i [

@@ -14,7 +14,8 @@ use Rattle.vip_config.specs.Sockets.{same_socket, socket_claims}
 use Rattle.vip_config.specs.declared.counts.Counts.{Counts}
 use Rattle.vip_config.specs.declared.parts.ConfigParts.{ConfigParts}
 use Rattle.vip_config.specs.declared.who.Who.{Who}
-use Rattle.vip_config.specs.declared.who.Who.TheVariants.{Replica as replica, Mux as mux, Agent as agent, Machine, Outside}
+use Rattle.vip_config.specs.declared.who.Who.TheVariants.{Replica as replica, Mux as mux, Agent as agent, Machine}
+use Rattle.vip_config.specs.declared.who.Who.TheVariants.{Outside}
 
 -- each socket with whose it is: the router's is of the outside
 abbrev pub sockets_of : ConfigParts → List (Socket × Who)
@@ -29,7 +30,12 @@ socket_of c (Mux i) = slice_get c.muxes i
 socket_of c (Agent i) = option_map (λ agent. agent.socket) (slice_get c.agents i)
 
 abbrev pub counts_of : ConfigParts → Counts
-counts_of c = record { muxes = length c.muxes; agents = length c.agents; machines = length (all_machines c); vips = length c.vips }
+counts_of c = record {
+  muxes = length c.muxes;
+  agents = length c.agents;
+  machines = length (all_machines c);
+  vips = length c.vips;
+}
 
 abbrev pub node_owner : NodeId → Who
 node_owner (Replica i) = replica i
@@ -41,7 +47,9 @@ node_owner (Agent i) = agent i
 pub record KnowsOwners (c : ConfigParts) : Type 0 where
   pub router : who_of c c.router ≡ Outside
   pub nodes : (n : NodeId) (socket : Socket) → socket_of c n ≡ Some socket → who_of c socket ≡ node_owner n
-  pub attached : (i : ℕ) (a : AgentConf) → slice_get c.agents i ≡ Some a → Each (λ machine. who_of c machine.attach ≡ Machine machine.address) a.machines
+  pub attached : (i : ℕ) (a : AgentConf) → slice_get c.agents i ≡ Some a
+      → Each (λ machine. who_of c machine.attach ≡ Machine machine.address) a.machines
   pub others : (socket : Socket) → ¬ (In socket (all_sockets c)) → who_of c socket ≡ Outside
-  pub machines : (i : ℕ) (a : AgentConf) → slice_get c.agents i ≡ Some a → Each (λ machine. agent_of (machines_of c.agents) machine.address ≡ Some i) a.machines
+  pub machines : (i : ℕ) (a : AgentConf) → slice_get c.agents i ≡ Some a
+      → Each (λ machine. agent_of (machines_of c.agents) machine.address ≡ Some i) a.machines
   pub no_machines : (address : Ip4) → ¬ (In address (all_machines c)) → agent_of (machines_of c.agents) address ≡ None

@@ -1,5 +1,6 @@
 ghost use Rattle.std.specs.Prelude.{◌≡◌, Err, None, Some, IfOk, map};
 ghost use Rattle.config_text.specs.Faults.{Fails, Gives, field};
+ghost use Rattle.config_text.specs.Bounds.{IsBounded};
 ghost use Rattle.config_text.specs.Sizes.{IsSized};
 ghost use Rattle.vip_config.specs.Claims.{owners_of};
 ghost use Rattle.vip_config.specs.Configs.{broken_rule, checked, config_of, parts_of};
@@ -7,7 +8,7 @@ ghost use Rattle.vip_config.specs.Leases.{lease_rules_of, ranges_of};
 ghost use Rattle.vip_config.specs.Machines.{agent_of, machines_of};
 ghost use Rattle.vip_config.specs.Places.{path};
 ghost use Rattle.vip_config.specs.Queries.{KnowsOwners, counts_of, socket_of, who_of};
-ghost use Rattle.vip_config.specs.Rules.{HasLengths, KeepsRules, Once};
+ghost use Rattle.vip_config.specs.Rules.{HasBounds, HasLengths, KeepsRules, Once};
 ghost use Rattle.vip_config.specs.Sockets.{socket_claims};
 ghost use Rattle.vip_config.specs.declared.parts.ConfigParts as parts;
 ghost use Rattle.wire_core.specs.Members.{Each};
@@ -55,8 +56,10 @@ fn fault_at(alloc: Global, place: Place) -> ConfigFault
 
 fn keep(alloc: Global, settings: Settings, index: Index) -> Result<Config, NoMemory>
     requires sized { IsSized settings }
+    requires bounded { IsBounded settings }
     requires rules { broken_rule settings ≡ None }
-    requires sockets { index.sockets.entries ≡ owners_of (socket_claims settings.router settings.replicas settings.muxes settings.agents) }
+    requires sockets { index.sockets.entries
+        ≡ owners_of (socket_claims settings.router settings.replicas settings.muxes settings.agents) }
     requires machines { index.machines.entries ≡ machines_of settings.agents }
     ensures { IfOk result (λ config. config ≡ parts_of settings) }
 {
@@ -77,7 +80,8 @@ fn keep(alloc: Global, settings: Settings, index: Index) -> Result<Config, NoMem
 }
 
 fn check(alloc: Global, settings: Settings) -> Result<Config, ConfigFault>
-    requires { IsSized settings }
+    requires sized { IsSized settings }
+    requires bounded { IsBounded settings }
     ensures { Gives result (checked settings) }
 {
     match build_index(alloc, &settings) {
@@ -88,9 +92,10 @@ fn check(alloc: Global, settings: Settings) -> Result<Config, ConfigFault>
 }
 
 impl Config {
-    /// Reads a configuration: one JSON object (RFC 8259) whose members have their form and keep every rule. `Json` comes
-    /// exactly where the bytes are no JSON, and `Field` with the path of the first member that is wrong: first by the
-    /// form of the text, then by the rules in their order. The cost is linear in the text.
+    /// Reads a configuration: one JSON object, as `serde_json` reads it (UTF-8, 127 levels, no lone surrogate, numbers
+    /// within a double), whose members have their form and keep every rule. `Json` comes exactly where the bytes are no
+    /// such JSON, and `Field` with the path of the first member that is wrong: first by the form of the text, then by
+    /// the rules in their order. The cost is linear in the text.
     #[tactic(auto, unfolding(crate::specs::Configs::config_of))]
     pub fn read(alloc: Global, bytes: &[u8]) -> Result<Config, ConfigFault>
         ensures { Gives result (config_of bytes.now) }
@@ -99,11 +104,12 @@ impl Config {
         check(alloc, settings)
     }
 
-    /// Every configuration keeps the rules, its lists have their lengths, and it knows whose each socket and each machine
-    /// is. It does nothing else than to say so.
+    /// Every configuration keeps the rules, its lists have their lengths, its version, ports, limit and timers are
+    /// within their bounds, and it knows whose each socket and each machine is. It does nothing else than to say so.
     pub fn keeps_rules(&self)
         ensures rules { KeepsRules self.now }
         ensures lengths { HasLengths self.now }
+        ensures bounds { HasBounds self.now }
         ensures owners { KnowsOwners self.now }
     {
         let _ = &self.parts;
@@ -215,7 +221,8 @@ impl Config {
         ensures exact { IfOk result (λ rules. rules ≡ lease_rules_of self.now) }
         ensures vips { IfOk result (λ rules. Once (map (λ rule. rule.vip) rules.vips)) }
         ensures machines { IfOk result (λ rules. Once (map (λ rule. rule.machine) rules.machines)) }
-        ensures agents { IfOk result (λ rules. Each (λ rule. agent_of (machines_of self.now.agents) rule.machine ≡ Some rule.agent) rules.machines) }
+        ensures agents { IfOk result (λ rules.
+            Each (λ rule. agent_of (machines_of self.now.agents) rule.machine ≡ Some rule.agent) rules.machines) }
     {
         let rules = make_rules(alloc, &self.parts, &self.index.machines)?;
         Ok(rules)
