@@ -16,7 +16,7 @@ use Rattle.vip_config.proofs.Members.{once_join}
 -- ---- claims that are clean break no rule
 
 module _ {K : Type 0} (same : K → K → Bool) (is_same : (a b : K) → same a b ≡ true → a ≡ b) where
-  any_member : (k : K) (xs : List K) → list_any (same k) xs ≡ true → In k xs
+  pub any_member : (k : K) (xs : List K) → list_any (same k) xs ≡ true → In k xs
   any_member k [] h = absurd (true≢false (sym h))
   any_member k (x ∷ xs) h = by (same k x) refl (any_member k xs)
     where

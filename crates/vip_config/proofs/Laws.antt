@@ -112,17 +112,19 @@ each_claims P Q f g each i (x ∷ xs) h =
 pub each_group : {A K V : Type 0} (P : Claim K V → Type 0) (Q : A → Type 0) (f : ℕ → A → List (Claim K V))
     → ((i : ℕ) (x : A) → Each P (f i x) → Q x) → (i : ℕ) (xs : List A) → Each P (claims_of f i xs) → Each Q xs
 each_group P Q f each i [] h = tt
-each_group P Q f each i (x ∷ xs) h =
-    (each i x (each_left P (f i x) (claims_of f (suc i) xs) h),
-    each_group P Q f each (suc i) xs (each_right P (f i x) (claims_of f (suc i) xs) h))
+each_group P Q f each i (x ∷ xs) h = (
+  each i x (each_left P (f i x) (claims_of f (suc i) xs) h),
+  each_group P Q f each (suc i) xs (each_right P (f i x) (claims_of f (suc i) xs) h),
+)
 
 pub once_group : {A K V : Type 0} (Q : A → Type 0) (f : ℕ → A → List (Claim K V))
     → ((i : ℕ) (x : A) → Once (keys (f i x)) → Q x) → (i : ℕ) (xs : List A) → Once (keys (claims_of f i xs)) → Each Q xs
 once_group Q f each i [] h = tt
 once_group Q f each i (x ∷ xs) h =
-    let both = subst Once (map-append (λ c. c.key) (f i x) (claims_of f (suc i) xs)) h in
-    (each i x (once_left (keys (f i x)) (keys (claims_of f (suc i) xs)) both),
-    once_group Q f each (suc i) xs (once_right (keys (f i x)) (keys (claims_of f (suc i) xs)) both))
+    let both = subst Once (map-append (λ c. c.key) (f i x) (claims_of f (suc i) xs)) h in (
+      each i x (once_left (keys (f i x)) (keys (claims_of f (suc i) xs)) both),
+      once_group Q f each (suc i) xs (once_right (keys (f i x)) (keys (claims_of f (suc i) xs)) both),
+    )
 
 -- what claims a key stands once where the keys do
 module _ {A K V Y : Type 0} (mark : Y → K) (f : ℕ → A → List (Claim K V)) (g : A → List Y)
@@ -241,9 +243,10 @@ port_of i vip none = by (is_low vip.low) refl (is_high vip.low vip.high) refl
 
 ranges : (i : ℕ) (xs : List VipText) → first_wrong_port i xs ≡ None → Each HasRanges (map vip_conf_of xs)
 ranges i [] none = tt
-ranges i (x ∷ xs) none =
-    (port_of i x (none_left _ (first_wrong_port (suc i) xs) none),
-    ranges (suc i) xs (none_right (vips.wrong_port i x) _ none))
+ranges i (x ∷ xs) none = (
+  port_of i x (none_left _ (first_wrong_port (suc i) xs) none),
+  ranges (suc i) xs (none_right (vips.wrong_port i x) _ none),
+)
 
 pub has_ports : (xs : List VipText) → Each HasRanges (map vip_conf_of xs) → Each HasPorts xs
 has_ports [] h = tt
@@ -376,9 +379,11 @@ keeps_rules s none =
           subst (Each (λ a. In a (all_machines (parts_of s)) → ⊥)) (same_vips s.vips)
           (each_claims (λ c. c.fits ≡ true) (λ a. In a (all_machines (parts_of s)) → ⊥) (vip_claims machines)
           (λ vip. vip.address ∷ [])
-          (λ i vip h.
-          (λ there. true≢false (sym (in_any same_address own_address vip.address (all_machines (parts_of s)) there)
-          ∙ sym (machine_test s.agents vip.address) ∙ not_true _ h.0), tt))
+          (λ i vip h. (
+            λ there. true≢false (sym (in_any same_address own_address vip.address (all_machines (parts_of s)) there)
+                ∙ sym (machine_test s.agents vip.address) ∙ not_true _ h.0),
+            tt,
+          ))
           0 s.vips vips.fit);
       ranges = ranges 0 s.vips (none_left (wrong_port s.vips) _ of_ports);
       snat =

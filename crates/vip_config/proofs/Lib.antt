@@ -6,3 +6,4 @@ pub mod Unbroken
 pub mod Given
 pub mod Loops
 pub mod Owners
+pub mod Lookups

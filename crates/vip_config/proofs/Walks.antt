@@ -70,7 +70,7 @@ pub one_more : {K V A : Type 0} (same : K → K → Bool) (claims : ℕ → A �
 one_more same claims start was now i d xs within step so_far =
     let more : claims_of claims 0 (take (i + 1) xs) ≡ claims_of claims 0 (take i xs) ++ claims i (get_or xs i d) =
     ap (λ n. claims_of claims 0 (take n xs)) (let at : i + 1 ≡ suc i = omega arith in at)
-        ∙ claims_next claims 0 i d xs within
+    ∙ claims_next claims 0 i d xs within
     ∙ ap (λ n. claims_of claims 0 (take i xs) ++ claims n (get_or xs i d)) (let at : 0 + i ≡ i = omega arith in at) in
     step ∙ ap (λ w. all_claimed same w (claims i (get_or xs i d))) so_far
     ∙ sym (claimed_append same start (claims_of claims 0 (take i xs)) (claims i (get_or xs i d)))

@@ -12,6 +12,7 @@ use Rattle.config_text.specs.Sizes.{HasLength}
 use Rattle.vip_config.specs.Claims.{owners_of}
 use Rattle.vip_config.specs.Machines.{machines_of}
 use Rattle.vip_config.specs.Sockets.{socket_claims}
+use Rattle.vip_config.specs.Ways.{FindsAs, all_attaches, all_leaves}
 use Rattle.vip_config.specs.declared.parts.ConfigParts.{ConfigParts}
 use Rattle.vip_config.specs.declared.parts.VipConf.{VipConf}
 use Rattle.vip_config.specs.declared.who.Who.{Who}
@@ -97,10 +98,19 @@ pub record HasBounds (c : ConfigParts) : Type 0 where
   pub limit : IsFrom 1 1024 c.limit
   pub timers : HasSpans c.timers
 
--- The parts keep the rules, and the index has each socket's and each machine's owner.
-pub record IsConfig (c : ConfigParts) (sockets : List (Socket × Who)) (machines : List (Ip4 × ℕ)) : Type 0 where
+-- what is looked up in a configuration by a hash: whose a socket is, a machine's agent, its socket and its VIP
+pub record Found : Type 0 where
+  pub sockets : List (Socket × Who)
+  pub machines : List (Ip4 × ℕ)
+  pub attached : List (Ip4 × Socket)
+  pub leaving : List (Ip4 × Ip4)
+
+-- The parts keep the rules, and what is looked up is what they say.
+pub record IsConfig (c : ConfigParts) (found : Found) : Type 0 where
   pub rules : KeepsRules c
   pub lengths : HasLengths c
   pub bounds : HasBounds c
-  pub of_sockets : sockets ≡ owners_of (socket_claims c.router c.replicas c.muxes c.agents)
-  pub of_machines : machines ≡ machines_of c.agents
+  pub of_sockets : found.sockets ≡ owners_of (socket_claims c.router c.replicas c.muxes c.agents)
+  pub of_machines : found.machines ≡ machines_of c.agents
+  pub of_attached : FindsAs found.attached (all_attaches c.agents)
+  pub of_leaving : FindsAs found.leaving (all_leaves c.vips)

@@ -10,17 +10,20 @@ ghost use Rattle.vip_config.specs.Places.{path};
 ghost use Rattle.vip_config.specs.Queries.{KnowsOwners, counts_of, socket_of, who_of};
 ghost use Rattle.vip_config.specs.Rules.{HasBounds, HasLengths, KeepsRules, Once};
 ghost use Rattle.vip_config.specs.Sockets.{socket_claims};
+ghost use Rattle.vip_config.specs.Serving.{attach_of, has_snat, snat_vip};
+ghost use Rattle.vip_config.specs.Vips.{HasPorts};
 ghost use Rattle.vip_config.specs.declared.parts.ConfigParts as parts;
 ghost use Rattle.wire_core.specs.Members.{Each};
 
 use crate::broken::Broken;
-use crate::copies::{copy_index, copy_parts};
+use crate::copies::{copy_index, copy_parts, copy_ways};
 use crate::counts::{Counts, count_ranges};
 use crate::index::{Index, build_index};
 use crate::leases::make_rules;
 use crate::narrow::narrow_vips;
 use crate::parts::{ConfigParts, VipConf};
 use crate::place::Place;
+use crate::ways::{Ways, index_ways};
 use crate::who::Who;
 use config_text::{AgentConf, ConfigFault, Settings, Timers};
 use std::alloc::Global;
@@ -32,6 +35,7 @@ use wire_core::{Ip4, LeaseRules, NoMemory, NodeId, Socket};
 pub struct Config {
     parts: ConfigParts,
     index: Index,
+    ways: Ways,
 }
 
 impl Model for Config {
@@ -42,7 +46,12 @@ impl Model for Config {
 
     ghost view = { λ c. c.parts };
 
-    ghost invariant = { λ c. IsConfig c.parts c.index.sockets.entries c.index.machines.entries };
+    ghost invariant = { λ c. IsConfig c.parts (record {
+      sockets = c.index.sockets.entries;
+      machines = c.index.machines.entries;
+      attached = c.ways.attached.entries;
+      leaving = c.ways.leaving.entries;
+    }) };
 }
 
 fn fault_at(alloc: Global, place: Place) -> ConfigFault
@@ -54,6 +63,23 @@ fn fault_at(alloc: Global, place: Place) -> ConfigFault
     }
 }
 
+fn make_parts(alloc: Global, settings: Settings) -> Result<ConfigParts, NoMemory>
+    requires { Each HasPorts settings.vips }
+    ensures { IfOk result (λ parts. parts ≡ parts_of settings) }
+{
+    let vips = narrow_vips(alloc, settings.vips)?;
+    Ok(ConfigParts {
+        version: settings.version,
+        router: settings.router,
+        replicas: settings.replicas,
+        muxes: settings.muxes,
+        agents: settings.agents,
+        vips,
+        limit: settings.limit,
+        timers: settings.timers,
+    })
+}
+
 fn keep(alloc: Global, settings: Settings, index: Index) -> Result<Config, NoMemory>
     requires sized { IsSized settings }
     requires bounded { IsBounded settings }
@@ -63,20 +89,9 @@ fn keep(alloc: Global, settings: Settings, index: Index) -> Result<Config, NoMem
     requires machines { index.machines.entries ≡ machines_of settings.agents }
     ensures { IfOk result (λ config. config ≡ parts_of settings) }
 {
-    let vips = narrow_vips(alloc, settings.vips)?;
-    Ok(Config {
-        parts: ConfigParts {
-            version: settings.version,
-            router: settings.router,
-            replicas: settings.replicas,
-            muxes: settings.muxes,
-            agents: settings.agents,
-            vips,
-            limit: settings.limit,
-            timers: settings.timers,
-        },
-        index,
-    })
+    let parts = make_parts(alloc, settings)?;
+    let ways = index_ways(alloc, &parts)?;
+    Ok(Config { parts, index, ways })
 }
 
 fn check(alloc: Global, settings: Settings) -> Result<Config, ConfigFault>
@@ -203,6 +218,32 @@ impl Config {
         self.index.machines.get(&machine).copied()
     }
 
+    /// The socket from which the machine's packets come, and to which they are handed. `None` exactly where the machine
+    /// isn't configured. A look-up by a hash.
+    pub fn attach_of(&self, machine: Ip4) -> Option<Socket>
+        ensures { result ≡ attach_of self.now machine }
+    {
+        self.ways.attached.get(&machine).copied()
+    }
+
+    /// The VIP from which the machine's connections leave. `None` exactly where the machine is in no `snat`. A look-up
+    /// by a hash.
+    pub fn snat_vip(&self, machine: Ip4) -> Option<Ip4>
+        ensures { result ≡ snat_vip self.now.vips machine }
+    {
+        self.ways.leaving.get(&machine).copied()
+    }
+
+    /// Whether the machine is in this VIP's `snat`. A look-up by a hash.
+    pub fn has_snat(&self, vip: Ip4, machine: Ip4) -> bool
+        ensures { result ≡ has_snat self.now.vips vip machine }
+    {
+        match self.ways.leaving.get(&machine) {
+            Some(found) => *found == vip,
+            None => false,
+        }
+    }
+
     /// How many muxes, agents, machines and VIPs there are.
     pub fn counts(&self) -> Counts
         ensures { result ≡ counts_of self.now }
@@ -244,6 +285,7 @@ impl Config {
         Ok(Config {
             parts: copy_parts(alloc, &self.parts)?,
             index: copy_index(&self.index)?,
+            ways: copy_ways(&self.ways)?,
         })
     }
 }

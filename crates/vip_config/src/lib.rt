@@ -39,6 +39,7 @@ mod snat;
 mod sockets;
 mod vips;
 mod walk;
+mod ways;
 mod who;
 
 pub use config::Config;
