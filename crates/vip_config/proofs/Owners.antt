@@ -23,6 +23,7 @@ use Rattle.vip_config.specs.declared.who.Who.{Who}
 use Rattle.vip_config.specs.declared.who.Who.TheVariants.{Outside, Machine, Agent as of_agent, Replica as of_replica}
 use Rattle.vip_config.specs.declared.who.Who.TheVariants.{Mux as of_mux}
 use Rattle.vip_config.proofs.Laws.{machine_keys, owner_keys, own_address, own_socket, socket_keys}
+use Rattle.vip_config.proofs.Named.{configured, only}
 use Rattle.vip_config.proofs.Members.{in_left, in_right}
 use Rattle.vip_config.proofs.Walks.{none_some}
 
@@ -179,6 +180,8 @@ module _ (c : ConfigParts) (keeps : KeepsRules c) where
   knows_owners = record {
     router = found c.router Outside (inl refl);
     nodes = nodes;
+    only = only c;
+    configured = configured c;
     attached = attached;
     others = λ socket none.
         ap (λ o. unwrap_or o Outside)

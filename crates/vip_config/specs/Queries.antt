@@ -1,5 +1,5 @@
 -- What is asked of a configuration.
-use Rattle.std.specs.Prelude.{◌≡◌, ℕ, List, length, slice_get, Option, Some, None, unwrap_or, option_map}
+use Rattle.std.specs.Prelude.{◌≡◌, ◌<◌, ℕ, List, length, slice_get, Option, Some, None, unwrap_or, option_map}
 use Rattle.std.specs.Map.{lookup}
 use Rattle.wire_core.specs.Members.{In, Each}
 use Rattle.wire_core.specs.declared.address.Ip4.{Ip4}
@@ -42,11 +42,21 @@ node_owner (Replica i) = replica i
 node_owner (Mux i) = mux i
 node_owner (Agent i) = agent i
 
--- A node's socket is that node's, an attach socket its machine's, and the router's and all others are of the outside. A
--- machine is of the agent that has it, and no other address is a machine.
+-- a node's number is one of the configuration's, and a machine's address a machine's
+abbrev pub IsOwner : ConfigParts → Who → Type 0
+IsOwner c (replica i) = i < length c.replicas
+IsOwner c (mux i) = i < length c.muxes
+IsOwner c (agent i) = i < length c.agents
+IsOwner c (Machine address) = In address (all_machines c)
+IsOwner c Outside = Unit {0}
+
+-- A node's socket is that node's and no other, an attach socket its machine's, and the router's and all others are of the
+-- outside; whoever owns a socket is configured. A machine is of the agent that has it, and no other address is a machine.
 pub record KnowsOwners (c : ConfigParts) : Type 0 where
   pub router : who_of c c.router ≡ Outside
   pub nodes : (n : NodeId) (socket : Socket) → socket_of c n ≡ Some socket → who_of c socket ≡ node_owner n
+  pub only : (n : NodeId) (socket : Socket) → who_of c socket ≡ node_owner n → socket_of c n ≡ Some socket
+  pub configured : (socket : Socket) → IsOwner c (who_of c socket)
   pub attached : (i : ℕ) (a : AgentConf) → slice_get c.agents i ≡ Some a
       → Each (λ machine. who_of c machine.attach ≡ Machine machine.address) a.machines
   pub others : (socket : Socket) → ¬ (In socket (all_sockets c)) → who_of c socket ≡ Outside

@@ -75,6 +75,28 @@ fn agents(config: &Config) -> [Option<u16>; 3] {
     ]
 }
 
+/// Where the machines of the configuration with two agents are reached; no VIP is a machine.
+fn attached(config: &Config) -> [Option<Socket>; 3] {
+    [
+        config.attach_of(MACHINE),
+        config.attach_of(Ip4(0x0a01_0005)),
+        config.attach_of(VIP),
+    ]
+}
+
+/// From which VIP its second machine leaves; no VIP leaves from one.
+fn leaving(config: &Config) -> [Option<Ip4>; 2] {
+    [config.snat_vip(Ip4(0x0a01_0005)), config.snat_vip(VIP)]
+}
+
+fn has_snat(config: &Config) -> [bool; 3] {
+    [
+        config.has_snat(VIP, MACHINE),
+        config.has_snat(MACHINE, MACHINE),
+        config.has_snat(VIP, VIP),
+    ]
+}
+
 #[test]
 fn the_small_configuration(rt: HostRuntime) -> Result<(), Fail> {
     let config = read(rt.alloc(), SMALL)?;
@@ -131,6 +153,26 @@ fn nodes_and_machines(rt: HostRuntime) -> Result<(), Fail> {
         ]
     );
     assert_eq!(rt; agents, [Some(0), Some(1), None]);
+    Ok(())
+}
+
+#[test]
+fn ways_to_and_from_machines(rt: HostRuntime) -> Result<(), Fail> {
+    let config = two(rt.alloc())?;
+    let attached = attached(&config);
+    let leaving = leaving(&config);
+    let has_snat = has_snat(&config);
+    drop(config);
+    assert_eq!(rt;
+        attached,
+        [
+            Some(socket(0x0a01_0004, 9000)),
+            Some(socket(0x0a01_0005, 9000)),
+            None
+        ]
+    );
+    assert_eq!(rt; leaving, [Some(VIP), None]);
+    assert_eq!(rt; has_snat, [true, false, false]);
     Ok(())
 }
 
