@@ -50,8 +50,8 @@ IsOwner c (agent i) = i < length c.agents
 IsOwner c (Machine address) = In address (all_machines c)
 IsOwner c Outside = Unit {0}
 
--- A node's socket is that node's and no other, an attach socket its machine's, and the router's and all others are of the
--- outside; whoever owns a socket is configured. A machine is of the agent that has it, and no other address is a machine.
+-- A node's socket is that node's and no other, an attach socket its machine's, and the router's and all others are of
+-- the outside; whoever owns a socket is configured. A machine is of the agent that has it, and no other address is one.
 pub record KnowsOwners (c : ConfigParts) : Type 0 where
   pub router : who_of c c.router ≡ Outside
   pub nodes : (n : NodeId) (socket : Socket) → socket_of c n ≡ Some socket → who_of c socket ≡ node_owner n
