@@ -13,6 +13,7 @@ use Rattle.wire_core.specs.declared.flow.Proto.TheVariants.{Tcp, Udp}
 use Rattle.wire_core.specs.contracts.flow.ProtoPartialEq.TheImpl as proto
 use Rattle.wire_core.specs.contracts.flow.FlowKeyPartialEq.TheImpl as flow
 use Rattle.wire_core.specs.Same.{same_key, same_proto}
+use Rattle.wire_core.specs.Members.{In}
 use Rattle.wire_core.proofs.SameLaws.{key_is, key_itself}
 use Rattle.agent_spec.specs.declared.connection.Connection.{Connection}
 use Rattle.agent_spec.specs.Connections.{private_key, public_key, has_private, has_public, at_private, closed, most}
@@ -28,7 +29,7 @@ use Rattle.agent_flows.specs.Slots.{IsLooked, IsKept}
 use Rattle.agent_flows.proofs.Looks.{none_split, none_in_none, none_more, none_set, none_older_lower, length_set, fewer_before}
 use Rattle.agent_flows.proofs.Looks.{length_clear}
 use Rattle.agent_flows.proofs.Marked.{listed_append, find_marked, none_before, map_marked, filter_marked}
-use Rattle.agent_flows.proofs.Marked.{push_marked, push_other, marks_set, within, is_place}
+use Rattle.agent_flows.proofs.Marked.{push_marked, push_other, marks_set, within, is_place, only_marked}
 
 by_test : {P : Type 0} → (b : Bool) → (b ≡ true → P) → (b ≡ false → P) → P
 by_test true f g = f refl
@@ -355,6 +356,29 @@ there_public ss live private public looked now k o x h is place slot =
     ∙ ap (slot_at ss) place
     ∙ sym (find_marked (has_public k) ss (public k) (h.by_public k))
     ∙ ap (find (has_public k)) is
+
+-- no two have one private key
+pub own_there : (ss : Slots) (live : ℕ) (private public : FlowKey → Option ℕ) (looked : Looked) (now : List Connection)
+    (k : FlowKey) (x : Option Connection) → IsKept ss live private public looked → listed ss ≡ now
+    → x ≡ find (has_private k) now → (c : Connection) → In c now → has_private k c ≡ true → x ≡ Some c
+own_there ss live private public looked now k x h is found c in_now hit =
+    found
+    ∙ sym (ap (find (has_private k)) is)
+    ∙ find_marked (has_private k) ss (private k) (h.by_private k)
+    ∙ only_marked (has_private k) ss (private k) c (h.by_private k)
+    (subst (λ (l : List Connection). In c l) (sym is) in_now)
+    hit
+
+pub own_out : (ss : Slots) (live : ℕ) (private public : FlowKey → Option ℕ) (looked : Looked) (now : List Connection)
+    (i : ℕ) (c : Connection) → IsKept ss live private public looked → listed ss ≡ now → get_or ss i None ≡ Some c
+    → (d : Connection) → In d now → has_private (private_key c) d ≡ true → d ≡ c
+own_out ss live private public looked now i c h is slot d in_now hit =
+    let there : slot_at ss (Some i) ≡ Some d =
+    only_marked (has_private (private_key c)) ss (Some i) d (marks_at private_key ss private i c h.by_private slot)
+    (subst (λ (l : List Connection). In d l) (sym is) in_now)
+    hit in
+    let both : Some d ≡ Some c = sym there ∙ slot in
+    cc
 
 -- an edit of the connection with a key
 pub edited : (ss : Slots) (live : ℕ) (private public : FlowKey → Option ℕ) (looked : Looked) (now : List Connection)

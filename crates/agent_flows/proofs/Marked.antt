@@ -1,10 +1,11 @@
 -- Slots of which one is marked.
 use Rattle.std.proofs.Common.{◌≡◌, ◌≢◌, ℕ, zero, suc, ◌+◌, ◌<◌, ◌≤◌, ◌==◌, Bool, true, false, not, cond, find}
 use Rattle.std.proofs.Common.{List, [], ◌∷◌, ◌++◌, map, filter, length, take, get_or, set, Option, Some, None}
-use Rattle.std.proofs.Common.{refl, ap, sym, ◌∙◌, subst, arith}
+use Rattle.std.proofs.Common.{refl, ap, sym, ◌∙◌, subst, arith, inl, inr}
 use Rattle.std.specs.Prelude.{if◌then◌else◌}
 use Rattle.std.proofs.lemmas.Bool.Decides.{nat_tests}
 use Rattle.std.proofs.lemmas.Bool.{eqb-true}
+use Rattle.wire_core.specs.Members.{In}
 use Rattle.agent_spec.specs.declared.connection.Connection.{Connection}
 use Rattle.agent_flows.specs.Slots.{Slots, listed, slot_at, is_at, slot_has, Marks}
 
@@ -162,3 +163,24 @@ within (s ∷ ss) (suc i) c e = let lt = within ss i c e in omega arith
 pub is_place : (o : Option ℕ) (i : ℕ) → is_at o i ≡ true → o ≡ Some i
 is_place None i e = absurd (cc)
 is_place (Some j) i e = ap (λ (n : ℕ). Some n) (eqb-true j i e)
+
+-- the one of which p holds is where the mark is
+pub only_marked : (p : Connection → Bool) (ss : Slots) (o : Option ℕ) (c : Connection) → Marks p ss o → In c (listed ss)
+    → p c ≡ true → slot_at ss o ≡ Some c
+unfolding listed
+only_marked p [] o c m is hit = absurd is
+only_marked p (None ∷ ss) o c m is hit =
+    sym (slot_tail None ss o (m 0)) ∙ only_marked p ss (before o) c (marks_tail p None ss o m) is hit
+only_marked p (Some d ∷ ss) o c m (inl same) hit = here o (m 0 ∙ ap p same ∙ hit)
+  where
+    here : (o : Option ℕ) → is_at o 0 ≡ true → slot_at (Some d ∷ ss) o ≡ Some c
+    here None e = absurd (cc)
+    here (Some zero) e = ap (λ (x : Connection). Some x) same
+    here (Some (suc j)) e = let z = suc_zero j in absurd (cc)
+only_marked p (Some d ∷ ss) o c m (inr later) hit =
+    further o (m 0) (only_marked p ss (before o) c (marks_tail p (Some d) ss o m) later hit)
+  where
+    further : (o : Option ℕ) → is_at o 0 ≡ p d → slot_at ss (before o) ≡ Some c → slot_at (Some d ∷ ss) o ≡ Some c
+    further None e found = absurd (cc)
+    further (Some zero) e found = absurd (cc)
+    further (Some (suc j)) e found = found

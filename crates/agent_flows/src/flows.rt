@@ -1,5 +1,7 @@
-ghost use Rattle.std.specs.Prelude.{◌≡◌, ◌≤◌, ◌<◌, ◌++◌, ◌∷◌, [], not, filter, find, map, length, slice_get, IfOk, OnOk, OnErr};
-ghost use Rattle.agent_spec.specs.Connections.{at_private, at_time, by_private, by_public, closed, is_idle, most};
+ghost use Rattle.std.specs.Prelude.{◌≡◌, ◌≤◌, ◌<◌, ◌++◌, ◌∷◌, [], not, filter, find, map, length, slice_get, true, Some, IfSome, IfOk, OnOk, OnErr};
+ghost use Rattle.wire_core.specs.Members.{In};
+ghost use Rattle.agent_spec.specs.declared.connection.Connection.{Connection as Kept};
+ghost use Rattle.agent_spec.specs.Connections.{at_private, at_time, by_private, by_public, closed, has_private, is_idle, most};
 ghost use Rattle.agent_spec.specs.Connections.{private_key, public_key, with_peer};
 ghost use Rattle.agent_spec.specs.Wrapped.{met_again};
 ghost use Rattle.agent_flows.specs.Changes.{made};
@@ -74,7 +76,8 @@ impl Flows {
 
     /// The connection of a machine's packets. `None` exactly where none has this private key.
     pub fn find_private(&self, key: &FlowKey) -> Option<Connection>
-        ensures { result ≡ by_private key.now self.now }
+        ensures found { result ≡ by_private key.now self.now }
+        ensures own { (c : Kept) → In c self.now → has_private key.now c ≡ true → result ≡ Some c }
     {
         slot_at(&self.slots, place_of(&self.by_private, key))
     }
@@ -182,6 +185,7 @@ impl Flows {
     /// Takes out the connection with this private key. `None` exactly where there is none.
     pub fn close(&mut self, key: &FlowKey) -> Option<Connection>
         ensures result { result ≡ by_private key.now self.old }
+        ensures own { (c : Kept) → In c self.old → has_private key.now c ≡ true → result ≡ Some c }
         ensures left { self.new ≡ closed key.now self.old }
     {
         let place = place_of(&self.by_private, key);
@@ -202,6 +206,7 @@ impl Flows {
     /// walk by calls with one time looks at each connection at most once, and at none that can't be idle yet.
     pub fn expire(&mut self, now: u64, idle: u64) -> Option<Connection>
         ensures first { result ≡ find (is_idle now idle) self.old }
+        ensures own { IfSome result (λ c. (d : Kept) → In d self.old → has_private (private_key c) d ≡ true → d ≡ c) }
         ensures left { self.new ≡ without result self.old }
         ensures walk { filter (is_idle now idle) self.old ≡ first_then result (filter (is_idle now idle) self.new) }
         ensures others { filter (λ c. not (is_idle now idle c)) self.new ≡ filter (λ c. not (is_idle now idle c)) self.old }

@@ -5,7 +5,7 @@ use Rattle.wire_core.specs.Same.{same_key}
 use Rattle.agent_spec.specs.declared.connection.Connection.{Connection}
 use Rattle.agent_spec.specs.Connections.{private_key, public_key}
 use Rattle.agent_flows.specs.Slots.{slot_at}
-use Rattle.agent_flows.proofs.Kept.{there, closed_here, closed_absent, kept_clear, one_is_live}
+use Rattle.agent_flows.proofs.Kept.{own_there, there, closed_here, closed_absent, kept_clear, one_is_live}
 use Rattle.agent_flows.proofs.flows.Flows.close.Goals as goal
 
 pub overflow_sub-self : goal.overflow_sub-self
@@ -76,3 +76,25 @@ returns-in-None-clause-left c =
     c.place_of-place.ensures
     (c.slot_at.ensures
     ∙ ap (λ (l : List (Option Connection)). slot_at l c.place_of-place.result) c.deref.ensures.value))))
+
+pub returns-in-Some-clause-own : goal.returns-in-Some-clause-own
+returns-in-Some-clause-own c =
+    own_there c.self.inside.slots.items _ _ _ _ c.args.self.now c.args.key.now _ c.self.invariant c.self.view_is
+    (sym c.in-Some.is
+    ∙ there c.self.inside.slots.items _ _ _ _ c.args.self.now c.args.key.now c.place_of-place.result c.slot_at.result
+    c.self.invariant
+    c.self.view_is
+    c.place_of-place.ensures
+    (c.slot_at.ensures
+    ∙ ap (λ (l : List (Option Connection)). slot_at l c.place_of-place.result) c.deref.ensures.value))
+
+pub returns-in-None-clause-own : goal.returns-in-None-clause-own
+returns-in-None-clause-own c =
+    own_there c.self.inside.slots.items _ _ _ _ c.args.self.now c.args.key.now _ c.self.invariant c.self.view_is
+    (sym c.in-None.is
+    ∙ there c.self.inside.slots.items _ _ _ _ c.args.self.now c.args.key.now c.place_of-place.result c.slot_at.result
+    c.self.invariant
+    c.self.view_is
+    c.place_of-place.ensures
+    (c.slot_at.ensures
+    ∙ ap (λ (l : List (Option Connection)). slot_at l c.place_of-place.result) c.deref.ensures.value))

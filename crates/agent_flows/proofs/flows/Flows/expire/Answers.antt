@@ -7,7 +7,7 @@ use Rattle.agent_spec.specs.declared.connection.Connection.{Connection}
 use Rattle.agent_spec.specs.Connections.{is_idle, private_key, public_key}
 use Rattle.agent_flows.specs.Slots.{IsLooked, listed}
 use Rattle.agent_flows.proofs.Looks.{first_out, found_holds, others_stay}
-use Rattle.agent_flows.proofs.Kept.{kept_clear, taken_out}
+use Rattle.agent_flows.proofs.Kept.{kept_clear, own_out, taken_out}
 use Rattle.agent_flows.proofs.flows.Flows.expire.Goals as goal
 
 pub invariant_of-self : goal.invariant_of-self
@@ -69,3 +69,13 @@ returns-in-Some-clause-others c =
     found_holds (is_idle c.args.now c.args.idle) (listed c.self.inside.slots.items) c.in-Some.c (first ∙ e) in
     others_stay (is_idle c.args.now c.args.idle) c.self.inside.slots.items c.look_on-self-inside.result.at c.in-Some.c e idle
     ∙ ap (filter (λ x. not (is_idle c.args.now c.args.idle x))) c.self.view_is
+
+pub returns-in-Some-clause-own : goal.returns-in-Some-clause-own
+returns-in-Some-clause-own c =
+    let e : get_or c.self.inside.slots.items c.look_on-self-inside.result.at None ≡ Some c.in-Some.c =
+    ap (λ (l : List (Option Connection)). get_or l c.look_on-self-inside.result.at None) (sym c.deref-3.ensures.value)
+    ∙ sym c.slot_at.ensures
+    ∙ c.in-Some.is in
+    own_out c.self.inside.slots.items _ _ _ _ c.args.self.now c.look_on-self-inside.result.at c.in-Some.c c.self.invariant
+    c.self.view_is
+    e
