@@ -1,20 +1,23 @@
+-- The worked run's lines, by computing.
 use Rattle.std.proofs.Common.{refl}
-use Rattle.std.specs.Prelude.{⊤}
 use Rattle.node_spec.proofs.OnLiterals.{node_on_literals}
 use Rattle.manager_spec.proofs.OnLiterals.{manager_on_literals}
 use Rattle.mux_spec.proofs.OnLiterals.{mux_on_literals}
 use Rattle.agent_spec.proofs.OnLiterals.{agent_on_literals}
 use Rattle.worked_run.proofs.OnLiterals.{below_on_literals, packets_on_literals}
-use Rattle.world_spec.specs.Nodes.{opened}
-use Rattle.world_spec.specs.World.{site, put, is_there, least_waiting, first_world}
-use Rattle.world_spec.specs.Steps.{after_turn, deliver, crash, restart, after_cut, cut_deliver, cut_restart}
-use Rattle.world_spec.specs.Transcript.{settle, applied, lines_from, transcript_text}
-use Rattle.worked_world.specs.Lines.{Elects}
+use Rattle.world_spec.proofs.OnLiterals.{world_on_literals}
+use Rattle.worked_world.specs.Lines.{WorkedLines}
 
-pub elects : Elects
+pub worked_lines : WorkedLines
 unfolding node_on_literals manager_on_literals mux_on_literals agent_on_literals below_on_literals packets_on_literals
-    opened site put is_there least_waiting first_world after_turn deliver crash restart after_cut cut_deliver cut_restart settle applied
-elects = record {
-  tick = refl;
-  hellos = refl;
+    world_on_literals
+worked_lines = record {
+  mux_ticks_so = refl;
+  hellos_arrive_so = refl;
+  replica_ticks_so = refl;
+  it_is_elected_so = refl;
+  machine_sends_so = refl;
+  range_is_leased_so = refl;
+  remote_answers_so = refl;
+  reply_is_handed_so = refl;
 }
