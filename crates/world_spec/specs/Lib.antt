@@ -6,3 +6,5 @@ pub mod Events
 pub mod Transcript
 pub mod Views
 pub mod History
+pub mod Shapes
+pub mod Facts

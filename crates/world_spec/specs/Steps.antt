@@ -116,7 +116,7 @@ risen cfg w x = record { entries = booted x (disk w x); up = Some (opened cfg x 
 
 -- an opening of a node that may be up
 abbrev pub restart_by : ConfigParts → World → NodeId → Option Lists → Outcome
-restart_by cfg w x None = (if is_there w x then put w x (risen cfg w x) else w, [])
+restart_by cfg w x None = if is_there w x then (put w x (risen cfg w x), []) else (w, [])
 restart_by cfg w x (Some l) = only_word w Up
 
 -- A node opens its disk.
@@ -169,7 +169,8 @@ cut_opening w x keep = record { entries = if keep then booted x (disk w x) else 
 
 -- an opening, cut short, of a node that may be up
 abbrev pub cut_restart_by : World → NodeId → Bool → Option Lists → Outcome
-cut_restart_by w x keep None = (if is_there w x then put w x (cut_opening w x keep) else w, act_lines (loss x))
+cut_restart_by w x keep None =
+    if is_there w x then (put w x (cut_opening w x keep), act_lines (loss x)) else (w, [])
 cut_restart_by w x keep (Some l) = only_word w Up
 
 -- An opening of node y in which node x goes down.
