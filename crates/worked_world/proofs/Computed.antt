@@ -12,12 +12,12 @@ pub worked_lines : WorkedLines
 unfolding node_on_literals manager_on_literals mux_on_literals agent_on_literals below_on_literals packets_on_literals
     world_on_literals
 worked_lines = record {
-  mux_ticks_so = refl;
-  hellos_arrive_so = refl;
-  replica_ticks_so = refl;
-  it_is_elected_so = refl;
-  machine_sends_so = refl;
-  range_is_leased_so = refl;
-  remote_answers_so = refl;
-  reply_is_handed_so = refl;
+  tick = refl;
+  hellos = refl;
+  candidacy = refl;
+  election = refl;
+  request = refl;
+  lease = refl;
+  reply = refl;
+  handing = refl;
 }

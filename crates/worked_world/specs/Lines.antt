@@ -244,11 +244,11 @@ reply_is_handed_lines =
 
 -- Each event's lines behind its own.
 pub record WorkedLines : Type 0 where
-  pub mux_ticks_so : (applied run_config world_0 mux_ticks).1 ≡ mux_ticks_lines
-  pub hellos_arrive_so : (applied run_config world_1 hellos_arrive).1 ≡ hellos_arrive_lines
-  pub replica_ticks_so : (applied run_config world_2 replica_ticks).1 ≡ replica_ticks_lines
-  pub it_is_elected_so : (applied run_config world_3 it_is_elected).1 ≡ it_is_elected_lines
-  pub machine_sends_so : (applied run_config world_4 machine_sends).1 ≡ machine_sends_lines
-  pub range_is_leased_so : (applied run_config world_5 range_is_leased).1 ≡ range_is_leased_lines
-  pub remote_answers_so : (applied run_config world_6 remote_answers).1 ≡ remote_answers_lines
-  pub reply_is_handed_so : (applied run_config world_7 reply_is_handed).1 ≡ reply_is_handed_lines
+  pub tick : (applied run_config world_0 mux_ticks).1 ≡ mux_ticks_lines
+  pub hellos : (applied run_config world_1 hellos_arrive).1 ≡ hellos_arrive_lines
+  pub candidacy : (applied run_config world_2 replica_ticks).1 ≡ replica_ticks_lines
+  pub election : (applied run_config world_3 it_is_elected).1 ≡ it_is_elected_lines
+  pub request : (applied run_config world_4 machine_sends).1 ≡ machine_sends_lines
+  pub lease : (applied run_config world_5 range_is_leased).1 ≡ range_is_leased_lines
+  pub reply : (applied run_config world_6 remote_answers).1 ≡ remote_answers_lines
+  pub handing : (applied run_config world_7 reply_is_handed).1 ≡ reply_is_handed_lines
