@@ -4,7 +4,7 @@ use mux_spec::{Admit, Gate};
 const GATE: Gate = Gate { boot: 3, epoch: 9 };
 
 #[test]
-fn the_first_test_that_applies_decides() {
+fn the_first_test_that_applies_decides(rt: HostRuntime) {
     let cases = [
         (8, 2, Admit::WrongBoot(3)),
         (10, 2, Admit::WrongBoot(3)),
@@ -16,6 +16,6 @@ fn the_first_test_that_applies_decides() {
         (9, 3, Admit::Yes),
     ];
     for (epoch, boot, expected) in cases {
-        assert_eq!(admit(&GATE, epoch, boot), expected);
+        assert_eq!(rt; admit(&GATE, epoch, boot), expected);
     }
 }
