@@ -14,7 +14,7 @@ use Rattle.world_spec.specs.Events.{Basic, happens, after, world}
 use Rattle.world_spec.specs.Shapes.{Moves, Grows, Shape, IsQuiet, IsCrash, IsTurn, IsCut, IsOpening, IsCutOpening}
 use Rattle.world_spec.specs.Facts.{Holds, Reached, Steps, Keeps}
 use Rattle.world_spec.proofs.ShapeLaws.{shape_of}
-use Rattle.world_spec.proofs.Sites.{node_or}
+use Rattle.world_spec.proofs.SiteLaws.{node_or}
 
 -- from each to each
 pub each_on : {X : Type 0} (P Q : X → Type 0) → ((x : X) → P x → Q x) → (xs : List X) → Each P xs → Each Q xs

@@ -1,5 +1,6 @@
 -- Each event is a step of one node, of one of the shapes.
-use Rattle.std.proofs.Common.{◌≡◌, inl, inr, ℕ, ◌+◌, ◌-◌, zero, suc, Bool, true, false, List, [], ◌∷◌, ◌++◌, map, filter, Option, Some, None, refl, sym, ap, ◌∙◌, append-nil}
+use Rattle.std.proofs.Common.{◌≡◌, inl, inr, ℕ, ◌+◌, ◌-◌, zero, suc, Bool, true, false, List, [], ◌∷◌, ◌++◌, map, filter, Option, Some, None, refl, sym, ap, ◌∙◌, append-nil, length}
+use Rattle.std.proofs.lemmas.List.{length-set, length-append, length-map}
 use Rattle.std.specs.Prelude.{if◌then◌else◌, slice_get}
 use Rattle.wire_core.specs.Members.{In, Each}
 use Rattle.wire_core.specs.declared.act.Act.{Act}
@@ -14,14 +15,14 @@ use Rattle.schedule_text.specs.declared.event.Single.TheVariants.{Deliver, Injec
 use Rattle.node_spec.specs.Sends.{Place, ToNode, ToMachine, ToRouter, Said, Send}
 use Rattle.node_spec.specs.Turns.{Input, Arrived, Ticked, Turn}
 use Rattle.world_spec.specs.Nodes.{Lists, node_turn, listed, boot_entry, booted, opened}
-use Rattle.world_spec.specs.World.{Site, World, Sent, site, put, is_there, disk, at, same_node, is_placed, sent_by, all_sent, posted, sent_at, takes}
+use Rattle.world_spec.specs.World.{Site, World, Sent, site, put, is_there, disk, at, same_node, is_placed, sent_by, all_sent, untaken, posted, sent_at, takes}
 use Rattle.world_spec.specs.Acts.{log_acts, turn_acts, loss}
 use Rattle.world_spec.specs.Steps.{Outcome, only_word, act_lines, stepped, after_turn, input_by, input, arriving, delivered_to, delivered, deliver, downed, crash_by, crash, risen, restart_by, restart, cut_site, cut_acts, after_cut, cut_by, cut_input, cut_delivered_to, cut_delivered, cut_deliver, cut_opening, cut_restart_by, cut_restart}
 use Rattle.world_spec.specs.Events.{Basic, Does, Crashes, Cuts, happens}
 use Rattle.world_spec.specs.Transcript.{acts_in}
 use Rattle.world_spec.specs.Shapes.{Moves, Given, IsSent, IsInjected, IsTick, Shape, IsQuiet, IsCrash, IsTurn, IsCut, IsOpening, IsCutOpening}
-use Rattle.world_spec.proofs.Lines.{acts_said, turn_says}
-use Rattle.world_spec.proofs.Sites.{site_put_same, site_put_other, there_put, up_is_there, same_is}
+use Rattle.world_spec.proofs.LineLaws.{acts_said, turn_says}
+use Rattle.world_spec.proofs.SiteLaws.{site_put_same, site_put_other, there_put, up_is_there, same_is}
 
 by_if : {X : Type 0} (P : X → Type 0) (b : Bool) {x y : X} → (b ≡ true → P x) → (b ≡ false → P y) → P (if b then x else y)
 by_if P true f g = f refl
@@ -33,9 +34,10 @@ record Same (w v : World) : Type 0 where
   there : (y : NodeId) → is_there v y ≡ is_there w y
   sent : v.sent ≡ w.sent
   acts : (y : NodeId) (t : Turn Lists) → log_acts v y t ≡ log_acts w y t
+  marks : length v.taken ≡ length w.taken
 
 itself : (w : World) → Same w w
-itself w = record { sites = λ y. refl; there = λ y. refl; sent = refl; acts = λ y t. refl }
+itself w = record { sites = λ y. refl; there = λ y. refl; sent = refl; acts = λ y t. refl; marks = refl }
 
 taken_site : (w : World) (k : ℕ) (y : NodeId) → site (takes w k) y ≡ site w y
 unfolding site
@@ -56,7 +58,7 @@ taken_acts w k (Mux i) t = refl
 taken_acts w k (Agent i) t = refl
 
 taken_same : (w : World) (k : ℕ) → Same w (takes w k)
-taken_same w k = record { sites = taken_site w k; there = taken_there w k; sent = refl; acts = taken_acts w k }
+taken_same w k = record { sites = taken_site w k; there = taken_there w k; sent = refl; acts = taken_acts w k; marks = length-set w.taken (k - 1) true }
 
 posted_site : (w : World) (ss : List Sent) (y : NodeId) → site (posted w ss) y ≡ site w y
 unfolding site
@@ -76,6 +78,18 @@ put_sent w (Replica i) s = refl
 put_sent w (Mux i) s = refl
 put_sent w (Agent i) s = refl
 
+put_taken : (w : World) (x : NodeId) (s : Site) → (put w x s).taken ≡ w.taken
+unfolding put
+put_taken w (Replica i) s = refl
+put_taken w (Mux i) s = refl
+put_taken w (Agent i) s = refl
+
+-- as many marks as datagrams, also with more of both
+more_marks : (w : World) (ss : List Sent) → length w.taken ≡ length w.sent
+    → length (posted w ss).taken ≡ length (posted w ss).sent
+more_marks w ss e =
+    length-append w.taken (map untaken ss) ∙ rw (e, length-map ss untaken) (sym (length-append w.sent ss))
+
 -- ---- one node is written
 
 -- v has the nodes of w, and then node x is written
@@ -90,6 +104,7 @@ put_moves w v x s es same there is = record {
   there = λ y. there_put v x y s ∙ same.there y;
   sent = put_sent v x s ∙ same.sent ∙ sym (append-nil w.sent);
   own = tt;
+  marked = λ e. ap length (put_taken v x s) ∙ same.marks ∙ e ∙ sym (ap length (put_sent v x s ∙ same.sent));
 }
 
 -- and then its datagrams are sent
@@ -103,9 +118,10 @@ post_moves w u x es ss up m own = record {
   there = λ y. posted_there u ss y ∙ m.there y;
   sent = ap (λ (z : List Sent). z ++ ss) (m.sent ∙ append-nil w.sent);
   own = own;
+  marked = λ e. more_marks u ss (m.marked e);
 }
 
-own_sends : (x : NodeId) (sends : List Send) → Each (λ (d : Sent). d.from ≡ x) (map (sent_by x) sends)
+pub own_sends : (x : NodeId) (sends : List Send) → Each (λ (d : Sent). d.from ≡ x) (map (sent_by x) sends)
 own_sends x [] = tt
 own_sends x (s ∷ sends) = (refl, own_sends x sends)
 
@@ -120,6 +136,7 @@ quiet_moves w v same = record {
   there = same.there;
   sent = same.sent ∙ sym (append-nil w.sent);
   own = tt;
+  marked = λ e. same.marks ∙ e ∙ sym (ap length same.sent);
 }
 
 -- a word, and at most a datagram taken

@@ -1,15 +1,12 @@
 -- Facts of all worlds: how one is said, and what it owes to hold in every world.
-use Rattle.std.specs.Prelude.{◌≡◌, ◌≢◌, List, [], ◌∷◌, ◌++◌, Some}
+use Rattle.std.specs.Prelude.{◌≡◌, ◌≢◌, List, Some, true, length}
 use Rattle.wire_core.specs.Members.{Each}
 use Rattle.wire_core.specs.declared.entry.Entry.{Entry}
 use Rattle.wire_core.specs.declared.node.NodeId.{NodeId}
-use Rattle.wire_core.specs.declared.node.NodeId.TheVariants.{Replica, Mux, Agent}
 use Rattle.vip_config.specs.declared.parts.ConfigParts.{ConfigParts}
-use Rattle.node_spec.specs.Boots.{boot_of, epoch_of}
 use Rattle.node_spec.specs.Turns.{Input}
-use Rattle.paxos_spec.specs.Acceptor.{state_of}
-use Rattle.world_spec.specs.Nodes.{Lists, OfManager, OfMux, OfAgent, node_turn, listed, boot_entry, booted, opened}
-use Rattle.world_spec.specs.World.{World, Sent, first_world, disk, at, all_sent}
+use Rattle.world_spec.specs.Nodes.{Lists, node_turn, listed, boot_entry, booted, opened}
+use Rattle.world_spec.specs.World.{World, Sent, first_world, is_there, disk, at, all_sent}
 use Rattle.world_spec.specs.Events.{Basic, world}
 use Rattle.world_spec.specs.Shapes.{Grows, Given, TurnMoves, CutMoves}
 
@@ -55,22 +52,20 @@ pub record Keeps
   pub turn : (w u : World) (x : NodeId) (l : Lists) (i : Input) → Steps cfg w u → Holds P E Q w → Grows x w u
       → at w x ≡ Some l → Given cfg w x i → TurnMoves cfg w u x l i
       → Each (P u) (all_sent cfg x (node_turn cfg l i).sends)
-          × Each (E u x) (listed (node_turn cfg l i).entry)
-          × Q u x (node_turn cfg l i).state
+      × Each (E u x) (listed (node_turn cfg l i).entry)
+      × Q u x (node_turn cfg l i).state
   -- a turn that a crash cut short
   pub cut : (w u : World) (x : NodeId) (l : Lists) (i : Input) → Steps cfg w u → Holds P E Q w → Grows x w u
       → at w x ≡ Some l → Given cfg w x i → CutMoves cfg w u x l i → Each (E u x) (listed (node_turn cfg l i).entry)
   -- the first world
   pub first : Holds P E Q (first_world cfg)
 
--- ---- the first fact: lists are of the disk
+-- ---- first facts
 
--- A node's lists are those of its role and number, and what is durable of them is what its entries say.
-abbrev pub OfDisk : NodeId → List Entry → Lists → Type 0
-OfDisk x es (OfManager m) = (x ≡ Replica m.index) × (m.acceptor ≡ state_of es)
-OfDisk x es (OfMux m) = (x ≡ Mux m.index) × (m.gate.boot ≡ boot_of es) × (m.gate.epoch ≡ epoch_of es)
-OfDisk x es (OfAgent a) = (x ≡ Agent a.index) × (a.boot ≡ boot_of es)
+-- each datagram is of a node of the world
+abbrev pub SendersAreThere : World → Type 0
+SendersAreThere w = Each (λ (s : Sent). is_there w s.from ≡ true) w.sent
 
--- the lists of each node that is up are of its disk
-abbrev pub ListsAreOfDisk : World → Type 0
-ListsAreOfDisk w = (x : NodeId) (l : Lists) → at w x ≡ Some l → OfDisk x (disk w x) l
+-- each datagram has one mark
+abbrev pub IsMarked : World → Type 0
+IsMarked w = length w.taken ≡ length w.sent

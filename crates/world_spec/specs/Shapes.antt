@@ -1,5 +1,5 @@
 -- What a step is: which node moves, and what it leaves of all others.
-use Rattle.std.specs.Prelude.{◌≡◌, ◌≢◌, ℕ, List, [], ◌∷◌, ◌++◌, Option, Some, None, true}
+use Rattle.std.specs.Prelude.{◌≡◌, ◌≢◌, ℕ, List, [], ◌∷◌, ◌++◌, Option, Some, None, true, length}
 use Rattle.wire_core.specs.Members.{In, Each}
 use Rattle.wire_core.specs.declared.address.Socket.{Socket}
 use Rattle.wire_core.specs.declared.entry.Entry.{Entry}
@@ -27,6 +27,7 @@ pub record Moves (w u : World) (x : NodeId) (es : List Entry) (ss : List Sent) (
   pub there : (y : NodeId) → is_there u y ≡ is_there w y
   pub sent : u.sent ≡ w.sent ++ ss
   pub own : Each (λ s. s.from ≡ x) ss
+  pub marked : length w.taken ≡ length w.sent → length u.taken ≡ length u.sent
 
 -- What any step of node x leaves: of all other nodes everything, and a front of all that was.
 pub record Grows (x : NodeId) (w u : World) : Type 0 where

@@ -42,9 +42,9 @@ in_range : (xs : List Site) (i : ℕ) (l : Lists) → (slice_index_or xs i nobod
 in_range xs i l e = elim (range_or i (length xs)) [
   | inl lt ↦ grind (arith, nat_tests)
   | inr past ↦ absurd (
-    let gone : slice_index_or xs i nobody ≡ nobody = get_or_past xs i nobody past in
-    let up : (slice_index_or xs i nobody).up ≡ None = ap (λ (s : Site). s.up) gone in
-    cc)
+      let gone : slice_index_or xs i nobody ≡ nobody = get_or_past xs i nobody past in
+      let up : (slice_index_or xs i nobody).up ≡ None = ap (λ (s : Site). s.up) gone in
+      cc)
 ]
   where
     range_or : (a b : ℕ) → (a < b) ⊎ (b ≤ a)
