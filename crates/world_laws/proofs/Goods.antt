@@ -63,11 +63,11 @@ body_good w i m j b s at = rw (s.at.index, s.at.acceptor, s.at.memory) (paxos.me
 -- a Lead
 lead_good : (w : View) (i : ℕ) (m : Manager) (j ballot length : ℕ) → Stands w i m → GoodOut None w i (led m j ballot length)
 lead_good w i m j ballot length s = rw s.at.index (
-  by_if (GoodOut None w i) (nat_lt ballot m.acceptor.promise)
-  (λ lower. paxos.saying w i m.memory (body.Refuse ballot m.acceptor.promise) (j ∷ []) s.here (leader_same w i m s) tt tt)
-  (λ high. by_if (GoodOut None w i) (nat_lt (reach m.acceptor) length)
-  (λ longer. paxos.saying w i _ (body.Fetch (reach m.acceptor)) (j ∷ []) s.here (leader_same w i m s) tt tt)
-  (λ short. hearing_good w i m (with_seen m.memory ballot) s refl)))
+    by_if (GoodOut None w i) (nat_lt ballot m.acceptor.promise)
+    (λ lower. paxos.saying w i m.memory (body.Refuse ballot m.acceptor.promise) (j ∷ []) s.here (leader_same w i m s) tt tt)
+    (λ high. by_if (GoodOut None w i) (nat_lt (reach m.acceptor) length)
+    (λ longer. paxos.saying w i _ (body.Fetch (reach m.acceptor)) (j ∷ []) s.here (leader_same w i m s) tt tt)
+    (λ short. hearing_good w i m (with_seen m.memory ballot) s refl)))
 
 -- what a replica sent
 replica_good : (w : View) (i : ℕ) (m : Manager) (j : ℕ) (x : Message) → Stands w i m
@@ -145,9 +145,9 @@ again_good : (w : View) (i : ℕ) (m : Manager) (o : Option Value) → Stands w 
     → GoodOut None w i (record { entry = None; memory = m.memory; sends = accept_of m.index (reach m.acceptor) m.memory.leader.ballot o })
 again_good w i m None s primary is = still_good w i m s
 again_good w i m (Some v) s primary is = rw (s.at.index, s.at.acceptor, s.at.memory) (
-  paxos.resend w i v s.here
-  (is_primary_stage _ (subst (λ (x : Memory). is_primary x.leader.stage ≡ true) s.at.memory primary))
-  (subst (λ (x : Memory). value_out x.leader.out ≡ Some v) s.at.memory is))
+    paxos.resend w i v s.here
+    (is_primary_stage _ (subst (λ (x : Memory). is_primary x.leader.stage ≡ true) s.at.memory primary))
+    (subst (λ (x : Memory). value_out x.leader.out ≡ Some v) s.at.memory is))
 
 tick_good : (cfg : ConfigParts) (w : View) (i : ℕ) (m : Manager) (now : ℕ) → Stands w i m → GoodOut None w i (tick_step cfg m now)
 tick_good cfg w i m now s = by_if (GoodOut None w i) (is_primary m.memory.leader.stage)
@@ -252,7 +252,7 @@ proposed_good cfg w i m t s good same =
     let is : IsStep cfg n p (proposal_step cfg n) = proposal_is cfg n in
     let out : out_of n p ≡ proposal_step cfg n = rw (is.entry, is.memory, is.mails) refl in
     let mails : mails_in m.index (t.sends ++ p.sends) ≡ mails_in m.index t.sends ++ mails_in n.index p.sends =
-        mails_append m.index t.sends p.sends ∙ ap (λ (j : ℕ). mails_in m.index t.sends ++ mails_in j p.sends) (sym same) in
+    mails_append m.index t.sends p.sends ∙ ap (λ (j : ℕ). mails_in m.index t.sends ++ mails_in j p.sends) (sym same) in
     record {
       index = left.index ∙ good.index;
       acceptor = rw (left.entry, first_none t.entry) (left.acceptor ∙ good.acceptor);

@@ -33,9 +33,15 @@ pub record Stands (w : View) (i : ℕ) (m : Manager) : Type 0 where
 abbrev pub out_of : Manager → Turn Manager → Out
 out_of m t = record { entry = t.entry; memory = t.state.memory; sends = mails_in m.index t.sends }
 
--- A turn of replica i is one step that shows what it owes, in which f may be offered. Its log follows its entry, and its
--- acts are those of what it learned.
-pub record GoodTurn (cfg : ConfigParts) (f : Option Value) (w : View) (i : ℕ) (m : Manager) (t : Turn Manager) : Type 0 where
+-- A turn of replica i is one step that shows what it owes, in which f may be offered. Its log follows its entry, and
+-- its acts are those of what it learned.
+pub record GoodTurn
+    (cfg : ConfigParts)
+    (f : Option Value)
+    (w : View)
+    (i : ℕ)
+    (m : Manager)
+    (t : Turn Manager) : Type 0 where
   pub index : t.state.index ≡ i
   pub acceptor : t.state.acceptor ≡ kept m.acceptor t.entry
   pub acts : t.acts ≡ flat_map act_of (effects_of (lease_rules_of cfg) m.acceptor t.entry)
