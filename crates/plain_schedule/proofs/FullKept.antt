@@ -1,5 +1,5 @@
 -- Full leases while marks rise and connections open.
-use Rattle.std.proofs.Common.{◌≡◌, ◌∙◌, ℕ, Bool, true, false, List, Option, Some, None, Result, Ok, Err, find, refl, sym, ap, subst, arith}
+use Rattle.std.proofs.Common.{◌≡◌, ◌≤◌, ◌∙◌, ℕ, Bool, true, false, List, Option, Some, None, Result, Ok, Err, find, refl, sym, ap, subst, arith}
 use Rattle.std.specs.Prelude.{cond, is_some, if◌then◌else◌, IfOk, OnOk, OnErr}
 use Rattle.std.specs.List.{flat_map}
 use Rattle.wire_core.specs.declared.address.Ip4.{Ip4}
@@ -29,6 +29,12 @@ pub passed : (s : Plain) (key : FlowKey) (n : ℕ) → IsSound s → AreFull s (
     → find (is_free s.table s.opened) (flat_map (eight key) (rows_of (rows s) key.src n))
     ≡ first_free s.table s.opened key
 passed s key n h full = past_full s key n (sound h) full
+
+-- what is full up to a number is full up to a lesser one
+pub less_full : (s : Plain) (e : RemoteEnd) (n k : ℕ) → k ≤ n → AreFull s e n → AreFull s e k
+less_full s e n k less h =
+    let old = h.old in
+    record { full = λ row there own low. h.full row there own (omega (arith, low, less)); old = omega (arith, old, less) }
 
 pub goes_on : (s : Plain) (key : FlowKey) (n : ℕ) (row : Row) → IsSound s → AreFull s (end_of key) n
     → rows_of (rows s) key.src n ≡ onward (rows s) key.src (Some row)

@@ -1,7 +1,6 @@
 -- Rows of the mux on packets: whose are taken, where they go, and what is kept of a flow.
-use Rattle.std.specs.Prelude.{ℕ, List, [], ◌∷◌, Some, ◌≡◌}
+use Rattle.std.specs.Prelude.{ℕ, List, [], ◌∷◌, ◌≡◌}
 use Rattle.wire_core.specs.declared.address.Ip4.{Ip4}
-use Rattle.wire_core.specs.declared.address.Socket.{Socket}
 use Rattle.wire_core.specs.declared.cause.DropCause.TheVariants.{WrongRole, NotMine, IpShort, BadSum, NotVip}
 use Rattle.wire_core.specs.declared.cause.DropCause.TheVariants.{NoEndpoint, NoLease, TtlOut}
 use Rattle.wire_core.specs.declared.flow.FlowKey.{FlowKey}
@@ -9,7 +8,6 @@ use Rattle.wire_core.specs.declared.flow.Proto.TheVariants.{Tcp}
 use Rattle.wire_core.specs.declared.step.Step.{Step}
 use Rattle.config_text.specs.declared.vips.Endpoint.{Endpoint}
 use Rattle.vip_config.specs.declared.parts.ConfigParts.{ConfigParts}
-use Rattle.vip_config.specs.declared.parts.VipConf.{VipConf}
 use Rattle.node_spec.specs.Turns.{Turn}
 use Rattle.node_spec.specs.Steps.{step_of}
 use Rattle.mux_spec.specs.declared.flow.Seen.{Seen}

@@ -1,5 +1,5 @@
 -- What replicas and muxes say to muxes, and what these answer and make durable.
-use Rattle.std.specs.Prelude.{ℕ, List, ◌++◌, codes}
+use Rattle.std.specs.Prelude.{ℕ, List, codes}
 use Rattle.worked_run.specs.Hex.{hex}
 
 -- entries: epoch 5, and those above it

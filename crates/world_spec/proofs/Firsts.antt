@@ -14,7 +14,7 @@ use Rattle.node_spec.specs.Steps.{outgoing, sent_to, socket_at, datagram}
 use Rattle.world_spec.specs.Nodes.{Lists}
 use Rattle.world_spec.specs.World.{World, Sent, first_world, is_there, is_placed, sent_by, all_sent}
 use Rattle.world_spec.specs.Steps.{Outcome}
-use Rattle.world_spec.specs.Events.{Basic, happens, after, world}
+use Rattle.world_spec.specs.Events.{Basic, happens, after, world, IsNamed, AreNamed}
 use Rattle.world_spec.specs.History.{Run, run, run_after, first_run}
 use Rattle.world_spec.specs.Shapes.{Moves, Grows, Shape, IsQuiet, IsCrash, IsTurn, IsCut, IsOpening, IsCutOpening}
 use Rattle.world_spec.specs.Facts.{Holds, Keeps, SendersAreThere, IsMarked}
@@ -58,13 +58,13 @@ keeps cfg = record {
   first = record { said = none cfg; kept = λ x. each_unit _; lists = λ x l e. tt };
 }
 
-pub senders : (cfg : ConfigParts) (bs : List Basic) → SendersAreThere (world cfg bs)
-senders cfg bs = (always cfg P NoEntry NoLists (keeps cfg) bs).said
+pub senders : (cfg : ConfigParts) (bs : List Basic) → AreNamed cfg bs → SendersAreThere (world cfg bs)
+senders cfg bs named = (always cfg P NoEntry NoLists (keeps cfg) bs named).said
 
 -- ---- steps
 
-pub grows : (cfg : ConfigParts) (w : World) (b : Basic) → (x : NodeId) × Grows x w (after cfg w b)
-grows cfg w b = by_shape (happens cfg w b) (shape_of cfg w b)
+pub grows : (cfg : ConfigParts) (w : World) (b : Basic) → IsNamed cfg b → (x : NodeId) × Grows x w (after cfg w b)
+grows cfg w b named = by_shape (happens cfg w b) (shape_of cfg w b named)
   where
     by_shape : (r : Outcome) → Shape cfg w r → (x : NodeId) × Grows x w r.0
     by_shape r (IsQuiet x m acts) = (x, grows_of w r.0 x _ _ _ m)
@@ -84,13 +84,15 @@ marked_step cfg w r (IsCut x l i was given m acts) h = m.marked h
 marked_step cfg w r (IsOpening x there m acts) h = m.marked h
 marked_step cfg w r (IsCutOpening x there m acts) h = m.marked h
 
-marked_on : (cfg : ConfigParts) (bs : List Basic) (w : World) → IsMarked w → IsMarked (fold (after cfg) w bs)
-marked_on cfg [] w h = h
-marked_on cfg (b ∷ bs) w h = marked_on cfg bs (after cfg w b) (marked_step cfg w (happens cfg w b) (shape_of cfg w b) h)
+marked_on : (cfg : ConfigParts) (bs : List Basic) (w : World) → AreNamed cfg bs → IsMarked w
+    → IsMarked (fold (after cfg) w bs)
+marked_on cfg [] w named h = h
+marked_on cfg (b ∷ bs) w named h =
+    marked_on cfg bs (after cfg w b) named.1 (marked_step cfg w (happens cfg w b) (shape_of cfg w b named.0) h)
 
-pub marked : (cfg : ConfigParts) (bs : List Basic) → IsMarked (world cfg bs)
+pub marked : (cfg : ConfigParts) (bs : List Basic) → AreNamed cfg bs → IsMarked (world cfg bs)
 unfolding world first_world
-marked cfg bs = marked_on cfg bs (first_world cfg) refl
+marked cfg bs named = marked_on cfg bs (first_world cfg) named refl
 
 -- ---- runs
 

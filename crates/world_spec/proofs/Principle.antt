@@ -10,7 +10,7 @@ use Rattle.lease_spec.proofs.MemberLaws.{each_append}
 use Rattle.world_spec.specs.Nodes.{Lists, boot_entry, booted, opened}
 use Rattle.world_spec.specs.World.{World, Sent, disk, at, first_world}
 use Rattle.world_spec.specs.Steps.{Outcome}
-use Rattle.world_spec.specs.Events.{Basic, happens, after, world}
+use Rattle.world_spec.specs.Events.{Basic, IsNamed, AreNamed, happens, after, world}
 use Rattle.world_spec.specs.Shapes.{Moves, Grows, Shape, IsQuiet, IsCrash, IsTurn, IsCut, IsOpening, IsCutOpening}
 use Rattle.world_spec.specs.Facts.{Holds, Reached, Steps, Keeps}
 use Rattle.world_spec.proofs.ShapeLaws.{shape_of}
@@ -92,22 +92,27 @@ pub next_world : (cfg : ConfigParts) (bs : List Basic) (b : Basic) → world cfg
 unfolding world
 next_world cfg bs b = fold-append (after cfg) (first_world cfg) bs (b ∷ [])
 
-pub reached_next : (cfg : ConfigParts) (w : World) (b : Basic) → Reached cfg w → Reached cfg (after cfg w b)
-reached_next cfg w b r = record {
+pub reached_next : (cfg : ConfigParts) (w : World) (b : Basic) → IsNamed cfg b → Reached cfg w
+    → Reached cfg (after cfg w b)
+reached_next cfg w b named r = record {
   events = r.events ++ b ∷ [];
+  named = each_append (IsNamed cfg) r.events (b ∷ []) r.named (named, tt);
   is = ap (λ (v : World). after cfg v b) r.is ∙ sym (next_world cfg r.events b);
 }
 
 run_holds : (cfg : ConfigParts) (P : World → Sent → Type 0) (E : World → NodeId → Entry → Type 0)
     (Q : World → NodeId → Lists → Type 0) → Keeps cfg P E Q
-    → (bs : List Basic) (w : World) → Reached cfg w → Holds P E Q w → Holds P E Q (fold (after cfg) w bs)
-run_holds cfg P E Q k [] w r h = h
-run_holds cfg P E Q k (b ∷ bs) w r h =
-    run_holds cfg P E Q k bs (after cfg w b) (reached_next cfg w b r)
-    (keeps_it cfg P E Q k w (happens cfg w b) (record { before = r; now = reached_next cfg w b r }) h (shape_of cfg w b))
+    → (bs : List Basic) (w : World) → AreNamed cfg bs → Reached cfg w → Holds P E Q w → Holds P E Q (fold (after cfg) w bs)
+run_holds cfg P E Q k [] w named r h = h
+run_holds cfg P E Q k (b ∷ bs) w named r h =
+    let next : Reached cfg (after cfg w b) = reached_next cfg w b named.0 r in
+    run_holds cfg P E Q k bs (after cfg w b) named.1 next
+    (keeps_it cfg P E Q k w (happens cfg w b) (record { before = r; now = next }) h (shape_of cfg w b named.0))
 
 -- The principle: a fact that keeps what it owes holds in every world.
 pub always : (cfg : ConfigParts) (P : World → Sent → Type 0) (E : World → NodeId → Entry → Type 0)
-    (Q : World → NodeId → Lists → Type 0) → Keeps cfg P E Q → (bs : List Basic) → Holds P E Q (world cfg bs)
+    (Q : World → NodeId → Lists → Type 0) → Keeps cfg P E Q → (bs : List Basic) → AreNamed cfg bs
+    → Holds P E Q (world cfg bs)
 unfolding world
-always cfg P E Q k bs = run_holds cfg P E Q k bs (first_world cfg) (record { events = []; is = refl }) k.first
+always cfg P E Q k bs named =
+    run_holds cfg P E Q k bs (first_world cfg) named (record { events = []; named = tt; is = refl }) k.first

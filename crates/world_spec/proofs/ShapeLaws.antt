@@ -18,7 +18,7 @@ use Rattle.world_spec.specs.Nodes.{Lists, node_turn, listed, boot_entry, booted,
 use Rattle.world_spec.specs.World.{Site, World, Sent, site, put, is_there, disk, at, same_node, is_placed, sent_by, all_sent, untaken, posted, sent_at, takes}
 use Rattle.world_spec.specs.Acts.{log_acts, turn_acts, loss}
 use Rattle.world_spec.specs.Steps.{Outcome, only_word, act_lines, stepped, after_turn, input_by, input, arriving, delivered_to, delivered, deliver, downed, crash_by, crash, risen, restart_by, restart, cut_site, cut_acts, after_cut, cut_by, cut_input, cut_delivered_to, cut_delivered, cut_deliver, cut_opening, cut_restart_by, cut_restart}
-use Rattle.world_spec.specs.Events.{Basic, Does, Crashes, Cuts, happens}
+use Rattle.world_spec.specs.Events.{Basic, Does, Crashes, Cuts, IsNamed, happens}
 use Rattle.world_spec.specs.Transcript.{acts_in}
 use Rattle.world_spec.specs.Shapes.{Moves, Given, IsSent, IsInjected, IsTick, Shape, IsQuiet, IsCrash, IsTurn, IsCut, IsOpening, IsCutOpening}
 use Rattle.world_spec.proofs.LineLaws.{acts_said, turn_says}
@@ -263,20 +263,20 @@ cut_restart_shape cfg w x keep (Some l) e = word_shape cfg w w Up (itself w)
 
 -- ---- each event
 
-pub shape_of : (cfg : ConfigParts) (w : World) (b : Basic) → Shape cfg w (happens cfg w b)
+pub shape_of : (cfg : ConfigParts) (w : World) (b : Basic) → IsNamed cfg b → Shape cfg w (happens cfg w b)
 unfolding happens deliver crash restart cut_deliver cut_restart
-shape_of cfg w (Does (Deliver k)) = deliver_shape cfg w k (sent_at w k) refl
-shape_of cfg w (Does (Inject x from bytes)) =
-    input_shape cfg w w x (Arrived from bytes) (itself w) (IsInjected from bytes refl) (at w x) refl
-shape_of cfg w (Does (Tick x now)) = input_shape cfg w w x (Ticked now) (itself w) (IsTick now refl) (at w x) refl
-shape_of cfg w (Does (Restart x)) = restart_shape cfg w x (at w x) refl
-shape_of cfg w (Crashes x) = crash_shape cfg w x (at w x) refl
-shape_of cfg w (Cuts x (Deliver k) keep) = cut_deliver_shape cfg w x k keep (sent_at w k) refl
-shape_of cfg w (Cuts x (Inject y from bytes) keep) =
-    cut_input_shape cfg w w x y (Arrived from bytes) keep (itself w) (λ is. IsInjected from bytes refl)
-shape_of cfg w (Cuts x (Tick y now) keep) =
+shape_of cfg w (Does (Deliver k)) named = deliver_shape cfg w k (sent_at w k) refl
+shape_of cfg w (Does (Inject x from bytes)) named =
+    input_shape cfg w w x (Arrived from bytes) (itself w) (IsInjected from bytes named refl) (at w x) refl
+shape_of cfg w (Does (Tick x now)) named = input_shape cfg w w x (Ticked now) (itself w) (IsTick now refl) (at w x) refl
+shape_of cfg w (Does (Restart x)) named = restart_shape cfg w x (at w x) refl
+shape_of cfg w (Crashes x) named = crash_shape cfg w x (at w x) refl
+shape_of cfg w (Cuts x (Deliver k) keep) named = cut_deliver_shape cfg w x k keep (sent_at w k) refl
+shape_of cfg w (Cuts x (Inject y from bytes) keep) named =
+    cut_input_shape cfg w w x y (Arrived from bytes) keep (itself w) (λ is. IsInjected from bytes named refl)
+shape_of cfg w (Cuts x (Tick y now) keep) named =
     cut_input_shape cfg w w x y (Ticked now) keep (itself w) (λ is. IsTick now refl)
-shape_of cfg w (Cuts x (Restart y) keep) =
+shape_of cfg w (Cuts x (Restart y) keep) named =
     by_if (Shape cfg w) (same_node x y)
     (λ is. cut_restart_shape cfg w x keep (at w x) refl)
     (λ is. word_shape cfg w w Other (itself w))

@@ -1,7 +1,11 @@
 -- Events, and the worlds that they lead to. A settle is its deliveries, read off the world as it goes.
-use Rattle.std.specs.Prelude.{ℕ, zero, suc, Bool, List, [], ◌∷◌, ◌++◌, Option, Some, None, fold}
+use Rattle.std.specs.Prelude.{◌≡◌, ℕ, zero, suc, Bool, false, List, [], ◌∷◌, ◌++◌, Option, Some, None, fold}
+use Rattle.wire_core.specs.Members.{Each}
+use Rattle.wire_core.specs.declared.address.Socket.{Socket}
 use Rattle.wire_core.specs.declared.node.NodeId.{NodeId}
 use Rattle.vip_config.specs.declared.parts.ConfigParts.{ConfigParts}
+use Rattle.vip_config.specs.Queries.{who_of}
+use Rattle.schedule_text.specs.Fields.{is_node}
 use Rattle.schedule_text.specs.declared.event.Event.{Event}
 use Rattle.schedule_text.specs.declared.event.Event.TheVariants as event
 use Rattle.schedule_text.specs.declared.event.Single.{Single}
@@ -15,6 +19,26 @@ pub data Basic : Type 0 where
   Does : (e : Single) → Basic
   Crashes : (node : NodeId) → Basic
   Cuts : (node : NodeId) → (e : Single) → (keep : Bool) → Basic
+
+-- ---- what a schedule may name
+
+-- What comes from outside comes from no node's socket.
+abbrev pub IsNamedAt : ConfigParts → Single → Type 0
+IsNamedAt cfg (Inject x from bytes) = is_node (who_of cfg from) ≡ false
+IsNamedAt cfg (Deliver k) = Unit {0}
+IsNamedAt cfg (Tick x now) = Unit {0}
+IsNamedAt cfg (Restart x) = Unit {0}
+
+abbrev pub IsNamed : ConfigParts → Basic → Type 0
+IsNamed cfg (Does e) = IsNamedAt cfg e
+IsNamed cfg (Crashes x) = Unit {0}
+IsNamed cfg (Cuts x e keep) = IsNamedAt cfg e
+
+-- basic events that a schedule may name
+abbrev pub AreNamed : ConfigParts → List Basic → Type 0
+AreNamed cfg bs = Each (IsNamed cfg) bs
+
+-- ---- what they do
 
 -- an event at one node
 abbrev pub single : ConfigParts → World → Single → Outcome

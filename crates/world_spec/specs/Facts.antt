@@ -7,7 +7,7 @@ use Rattle.vip_config.specs.declared.parts.ConfigParts.{ConfigParts}
 use Rattle.node_spec.specs.Turns.{Input}
 use Rattle.world_spec.specs.Nodes.{Lists, node_turn, listed, boot_entry, booted, opened}
 use Rattle.world_spec.specs.World.{World, Sent, first_world, is_there, disk, at, all_sent}
-use Rattle.world_spec.specs.Events.{Basic, world}
+use Rattle.world_spec.specs.Events.{Basic, AreNamed, world}
 use Rattle.world_spec.specs.Shapes.{Grows, Given, TurnMoves, CutMoves}
 
 -- A fact in three parts: P of each datagram, E of each entry, and Q of the lists of each node that is up.
@@ -20,9 +20,10 @@ pub record Holds
   pub kept : (x : NodeId) → Each (E w x) (disk w x)
   pub lists : (x : NodeId) (l : Lists) → at w x ≡ Some l → Q w x l
 
--- a world of some list of events
+-- a world of some list of events that a schedule may name
 pub record Reached (cfg : ConfigParts) (w : World) : Type 0 where
   pub events : List Basic
+  pub named : AreNamed cfg events
   pub is : w ≡ world cfg events
 
 -- One step from a reached world. So each law of all worlds holds of both.

@@ -1,10 +1,12 @@
 -- What a step is: which node moves, and what it leaves of all others.
-use Rattle.std.specs.Prelude.{◌≡◌, ◌≢◌, ℕ, List, [], ◌∷◌, ◌++◌, Option, Some, None, true, length}
+use Rattle.std.specs.Prelude.{◌≡◌, ◌≢◌, ℕ, List, [], ◌∷◌, ◌++◌, Option, Some, None, true, false, length}
 use Rattle.wire_core.specs.Members.{In, Each}
 use Rattle.wire_core.specs.declared.address.Socket.{Socket}
 use Rattle.wire_core.specs.declared.entry.Entry.{Entry}
 use Rattle.wire_core.specs.declared.node.NodeId.{NodeId}
 use Rattle.vip_config.specs.declared.parts.ConfigParts.{ConfigParts}
+use Rattle.vip_config.specs.Queries.{who_of}
+use Rattle.schedule_text.specs.Fields.{is_node}
 use Rattle.control_msg.specs.declared.message.Message.{Message}
 use Rattle.node_spec.specs.Sends.{ToNode, Says}
 use Rattle.node_spec.specs.Turns.{Input, Arrived, Ticked}
@@ -40,7 +42,8 @@ pub record Grows (x : NodeId) (w u : World) : Type 0 where
 -- How an input came to node x: as a datagram that was sent to it, from outside, or by the clock.
 pub data Given (cfg : ConfigParts) (w : World) (x : NodeId) (i : Input) : Type 0 where
   IsSent : (s : Sent) → (sent : In s w.sent) → (to : s.to ≡ ToNode x) → (is : i ≡ arriving cfg s) → Given cfg w x i
-  IsInjected : (from : Socket) → (bytes : List ℕ) → (is : i ≡ Arrived from bytes) → Given cfg w x i
+  IsInjected : (from : Socket) → (bytes : List ℕ) → (outside : is_node (who_of cfg from) ≡ false)
+      → (is : i ≡ Arrived from bytes) → Given cfg w x i
   IsTick : (now : ℕ) → (is : i ≡ Ticked now) → Given cfg w x i
 
 -- the step of a turn

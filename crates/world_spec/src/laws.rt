@@ -2,7 +2,7 @@ ghost use Rattle.std.specs.Prelude.{◌≡◌, ◌≢◌, List, true};
 ghost use Rattle.schedule_text.specs.declared.event.Event.{Event};
 ghost use Rattle.vip_config.specs.declared.parts.ConfigParts.{ConfigParts};
 ghost use Rattle.wire_core.specs.declared.node.NodeId.{NodeId};
-ghost use Rattle.world_spec.specs.Events.{Basic, after, after_event, expand, happens, world};
+ghost use Rattle.world_spec.specs.Events.{AreNamed, Basic, IsNamed, after, after_event, expand, happens, world};
 ghost use Rattle.world_spec.specs.Facts.{IsMarked, SendersAreThere};
 ghost use Rattle.world_spec.specs.History.{run};
 ghost use Rattle.world_spec.specs.Shapes.{Grows, Shape};
@@ -15,11 +15,12 @@ pub fn sites()
     ensures other { (w : World) (x y : NodeId) (s : Site) → y ≢ x → site (put w x s) y ≡ site w y }
 {}
 
-/// Each event is a step of one node, of one of six shapes; it leaves all other nodes as they were, and a front of each
+/// Each event that a schedule may name is a step of one node, of one of six shapes; it leaves all other nodes as they were, and a front of each
 /// disk and of what was sent.
 pub fn shapes()
-    ensures shape { (cfg : ConfigParts) (w : World) (b : Basic) → Shape cfg w (happens cfg w b) }
-    ensures grows { (cfg : ConfigParts) (w : World) (b : Basic) → (x : NodeId) × Grows x w (after cfg w b) }
+    ensures shape { (cfg : ConfigParts) (w : World) (b : Basic) → IsNamed cfg b → Shape cfg w (happens cfg w b) }
+    ensures grows { (cfg : ConfigParts) (w : World) (b : Basic) → IsNamed cfg b
+        → (x : NodeId) × Grows x w (after cfg w b) }
 {}
 
 /// A settle is its deliveries; so the world at the end of a schedule is that of its basic events, and the acts and what
@@ -38,6 +39,6 @@ pub fn lines()
 
 /// In every world each datagram is of a node of the world, and has one mark that says whether a delivery took it.
 pub fn every_world()
-    ensures senders { (cfg : ConfigParts) (bs : List Basic) → SendersAreThere (world cfg bs) }
-    ensures marks { (cfg : ConfigParts) (bs : List Basic) → IsMarked (world cfg bs) }
+    ensures senders { (cfg : ConfigParts) (bs : List Basic) → AreNamed cfg bs → SendersAreThere (world cfg bs) }
+    ensures marks { (cfg : ConfigParts) (bs : List Basic) → AreNamed cfg bs → IsMarked (world cfg bs) }
 {}
