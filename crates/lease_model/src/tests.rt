@@ -66,7 +66,7 @@ fn answer(book: &mut Book, act: Act) -> Result<u64, AllocError> {
                 act: _,
                 kept: Some(row),
             },
-        ) => Ok(100 + row.n),
+        ) => Ok(row.n.saturating_add(100)),
         Err(StepFault::NoMemory) => Err(AllocError),
     }
 }

@@ -1,4 +1,4 @@
-use crate::{Event, Line, LineFault, Single, Word, print_line, read_schedule};
+use crate::{Event, EventList, Line, LineFault, Single, Word, print_line, read_schedule};
 use std::alloc::{AllocError, Global};
 use std::test::Fail;
 use vip_config::Config;
@@ -19,21 +19,25 @@ fn small(alloc: Global) -> Result<Config, AllocError> {
     }
 }
 
+/// The events of a text of at most 10,000 bytes.
+fn read(alloc: Global, text: &[u8], config: &Config) -> Result<EventList, LineFault> {
+    if text.len() > 10_000 {
+        return Err(LineFault::NoMemory);
+    }
+    read_schedule(alloc, text, config)
+}
+
 /// 0 for a schedule, and else its first bad line.
 fn first_bad(alloc: Global, text: &[u8]) -> Result<u64, AllocError> {
     let config = small(alloc)?;
-    match read_schedule(alloc, text, &config) {
+    match read(alloc, text, &config) {
         Ok(_) => Ok(0),
         Err(LineFault::Line(n)) => Ok(n),
         Err(LineFault::NoMemory) => Err(AllocError),
     }
 }
 
-fn print_events(
-    alloc: Global,
-    config: &Config,
-    events: Items<Event>,
-) -> Result<String, AllocError> {
+fn print_events(alloc: Global, config: &Config, events: EventList) -> Result<String, AllocError> {
     let mut out = String::new(alloc);
     for event in events.into_vec() {
         print_line(alloc, &Line::Event(event), config, &mut out)?;
@@ -44,7 +48,7 @@ fn print_events(
 /// The events of a schedule, printed.
 fn again(alloc: Global, text: &[u8]) -> Result<String, AllocError> {
     let config = small(alloc)?;
-    match read_schedule(alloc, text, &config) {
+    match read(alloc, text, &config) {
         Ok(events) => print_events(alloc, &config, events),
         Err(_) => Err(AllocError),
     }
