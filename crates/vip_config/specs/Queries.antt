@@ -7,10 +7,11 @@ use Rattle.wire_core.specs.declared.address.Socket.{Socket}
 use Rattle.config_text.specs.declared.agents.AgentConf.{AgentConf}
 use Rattle.wire_core.specs.declared.node.NodeId.{NodeId}
 use Rattle.wire_core.specs.declared.node.NodeId.TheVariants.{Replica, Mux, Agent}
+use Rattle.wire_core.specs.Same.{same_socket}
 use Rattle.vip_config.specs.Claims.{owners_of}
 use Rattle.vip_config.specs.Machines.{agent_of, machines_of}
 use Rattle.vip_config.specs.Rules.{all_machines, all_sockets}
-use Rattle.vip_config.specs.Sockets.{same_socket, socket_claims}
+use Rattle.vip_config.specs.Sockets.{socket_claims}
 use Rattle.vip_config.specs.declared.counts.Counts.{Counts}
 use Rattle.vip_config.specs.declared.parts.ConfigParts.{ConfigParts}
 use Rattle.vip_config.specs.declared.who.Who.{Who}

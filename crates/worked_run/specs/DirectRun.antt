@@ -129,8 +129,8 @@ opened = record {
   sport = 5000;
 }
 
--- The three segments pass the first mux; with the third it asks the mux of the flow's odd hash, which tells both agents.
--- From then on packets go from agent to agent, and are handed with the time to live with which they left.
+-- The three segments pass the first mux; with the third it asks the mux of the flow's odd hash, which tells both
+-- agents. From then on packets go from agent to agent, and are handed with the time to live with which they left.
 pub record DirectLines : Type 0 where
   pub syn_leaves : step_of direct syn_out ≡ does (Open opened ∷ []) (leaves router_at segments.syn_left)
   pub syn_passes : step_of direct syn_passed ≡ leaves other_agent_at segments.syn_wrapped
@@ -176,8 +176,8 @@ entry peer = record {
 abbrev pub entries_after : Socket → List ℕ → List Connection
 entries_after from bytes = (agent server_told.state from bytes).state.traffic.inbound
 
--- The peer stays with each segment, and with a SYN that comes from an agent; a SYN through a mux clears it, and then the
--- answer leaves for the router. The number stays.
+-- The peer stays with each segment, and with a SYN that comes from an agent; a SYN through a mux clears it, and then
+-- the answer leaves for the router. The number stays.
 pub record DirectCleared : Type 0 where
   pub told : server_told.state.traffic.inbound ≡ entry (Some machine) ∷ []
   pub segment : entries_after mux_at segments.data_wrapped ≡ entry (Some machine) ∷ []

@@ -1,5 +1,5 @@
 -- Rows of the mux at its limits: packets that are too long to wrap, and lists of flows that are full.
-use Rattle.std.specs.Prelude.{ℕ, zero, suc, List, [], ◌∷◌, length, Some, None, ◌≡◌}
+use Rattle.std.specs.Prelude.{ℕ, zero, suc, [], ◌∷◌, length, Some, None, ◌≡◌}
 use Rattle.wire_core.specs.declared.cause.DropCause.TheVariants.{TooLong}
 use Rattle.wire_core.specs.declared.flow.FlowKey.{FlowKey}
 use Rattle.mux_spec.specs.Flows.{FlowList, Flows, flow_in}
