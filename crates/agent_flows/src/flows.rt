@@ -175,7 +175,8 @@ impl Flows {
         self.change(key, Change::Peer { peer, n });
     }
 
-    /// The connection with this private key, if there is one, was used now, and its peer is cleared where that is asked.
+    /// The connection with this private key, if there is one, was used now, and its peer is cleared where that is
+    /// asked.
     pub fn meet_again(&mut self, key: &FlowKey, now: u64, clear: bool)
         ensures { self.new ≡ map (at_private key.now (met_again now clear)) self.old }
     {

@@ -30,3 +30,6 @@ mod slots;
 pub use flows::Flows;
 pub use keys::{conn_of, private_key, public_key};
 pub use opened::Opened;
+
+#[cfg(test)]
+mod tests;

@@ -58,7 +58,8 @@ impl FlowTable {
 
     /// What is kept of the flow. `None` exactly where neither list has it. At most two look-ups by a hash.
     pub fn lookup(&self, key: &FlowKey) -> Option<Seen>
-        ensures { result ≡ option_or (flow_in key.now self.now.flows.trusted) (flow_in key.now self.now.flows.untrusted) }
+        ensures { result
+            ≡ option_or (flow_in key.now self.now.flows.trusted) (flow_in key.now self.now.flows.untrusted) }
     {
         self.lists.lookup(key)
     }

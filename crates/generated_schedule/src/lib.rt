@@ -1,9 +1,9 @@
 //! Schedules made from a number: a configuration, four opening lines, and so many lines, each by the next word of a
 //! generator (PCG XSH RR 64/32 with stream 1).
 //!
-//! A word gives an event and the event its line, as `schedule_text` writes it: so each line that is generated is read
-//! as its event. Of each 16 words 7 are settles, 2 inject a packet of a machine, 1 delivers again, 3 are ticks, each 100
-//! milliseconds after the one before, 1 is a crash and 2 are restarts, on average.
+//! A word gives an event and the event its line, as `schedule_text` writes it. Of each 16 words 7 are settles, 2 inject
+//! a packet of a machine, 1 delivers again, 3 are ticks, each 100 milliseconds after the one before, 1 is a crash and 2
+//! are restarts, on average.
 #![tactic(auto)]
 
 mod event;

@@ -12,6 +12,9 @@ fn generated_from(
     count: u64,
     from: usize,
 ) -> Result<Vec<u8>, AllocError> {
+    if count > 99_996 {
+        return Err(AllocError);
+    }
     let mut out = String::new(alloc);
     append_generated(alloc, &mut out, number, count)?;
     let bytes = out.as_bytes();

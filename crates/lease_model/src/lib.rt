@@ -1,9 +1,9 @@
 //! The book of leases: what may be done to ranges and connections, and to whom they belong. Of replicas, maps in muxes,
 //! epochs and journals nothing is in it.
 //!
-//! A book has the rows of leases, the numbers that agents hold, and the connections. [`Book::step`] takes one act: it is
-//! legal exactly where its conditions hold, and else [`StepFault::Illegal`] tells the act and the row that it clashes
-//! with. A book keeps no packets, so each Hand is taken.
+//! A book has the rows of leases, the numbers that agents hold, and the connections. [`Book::step`] takes one act: it
+//! is legal exactly where its conditions hold, and else [`StepFault::Illegal`] tells the act and the row that it
+//! clashes with. A book keeps no packets, so each Hand is taken.
 //!
 //! | act | legal where | leaves |
 //! |---|---|---|

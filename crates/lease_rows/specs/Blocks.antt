@@ -45,7 +45,8 @@ pub record Counts (e : Entry) (block : Block) : Type 0 where
 
 -- the block after one of its entries changed
 pub record IsRecount (old new : Entry) (before after : Block) : Type 0 where
-  pub being_leased : after.being_leased + one (is_in BeingLeased old) ≡ before.being_leased + one (is_in BeingLeased new)
+  pub being_leased : after.being_leased + one (is_in BeingLeased old)
+      ≡ before.being_leased + one (is_in BeingLeased new)
   pub leased : after.leased + one (is_in Leased old) ≡ before.leased + one (is_in Leased new)
   pub freeing : after.freeing + one (is_in Freeing old) ≡ before.freeing + one (is_in Freeing new)
 

@@ -1,11 +1,11 @@
 //! What a mux looks up for a packet and for a command, each by a hash.
 //!
-//! | type | what it has | what one look-up tells |
-//! |---|---|---|
-//! | [`Ranges`] | each leasable range, with its kept number and its machine | a range that may not be leased, one without a row, a row |
-//! | [`Endpoints`] | each endpoint with its machines | whether there is one, and the machine that a hash chooses |
-//! | [`Vips`] | the addresses of the VIPs | whether an address is a VIP |
-//! | [`Leaving`] | each VIP with the machines whose connections leave from it | whether a machine's connections leave from a VIP |
+//! | type | what one look-up tells |
+//! |---|---|
+//! | [`Ranges`] | whether a range may be leased, its kept number, and the machine of its row |
+//! | [`Endpoints`] | whether there is an endpoint, and the machine that a hash chooses |
+//! | [`Vips`] | whether an address is a VIP |
+//! | [`Leaving`] | whether a machine's connections leave from a VIP |
 #![tactic(auto)]
 
 mod endpoints;

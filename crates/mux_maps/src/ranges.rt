@@ -1,9 +1,10 @@
-ghost use Rattle.std.specs.Prelude.{◌≡◌, ◌||◌, ◌≤◌, [], None, Some, IfOk, OnOk, is_some};
-ghost use Rattle.mux_spec.specs.Rows.{kept_at, program_row, programmed, row_at, set_row, unprogram_row};
+ghost use Rattle.std.specs.Prelude.{◌≡◌, ◌||◌, ◌&&◌, ◌≤◌, ◌<◌, ◌*◌, ◌++◌, ◌∷◌, [], ℕ, false, map, if◌then◌else◌, IfOk, OnOk, is_some};
+ghost use Rattle.mux_spec.specs.Rows.{kept_at, new_rows, program_row, programmed, ranges_by, row_at, set_row, unprogram_row};
 ghost use Rattle.wire_core.specs.declared.range.Range as ranges;
-ghost use Rattle.wire_core.specs.Ranges.{is_leasable};
+ghost use Rattle.wire_core.specs.Ranges.{allows, is_leasable, range_at};
+ghost use Rattle.vip_config.specs.Rules.{Once};
 ghost use Rattle.wire_core.specs.Same.{same_range};
-ghost use Rattle.mux_maps.specs.Entries.{is_in};
+ghost use Rattle.mux_maps.specs.Entries.{is_in, without_row};
 
 use indexmap::IndexMap;
 use mux_spec::{Kept, Programmed};
@@ -43,10 +44,13 @@ fn set(rows: &mut IndexMap<Range, Kept>, r: &Range, kept: Kept)
     }
 }
 
-/// The range has an entry from now on, without a row.
+/// A range that had no entry has one from now on, without a row, and stands last.
 #[tactic(auto, unfolding(mux_spec::specs::Rows::row_at))]
 fn add(rows: &mut IndexMap<Range, Kept>, r: Range) -> Result<(), NoMemory>
-    ensures { OnOk result ((s : ranges.Range) → is_some (row_at rows.new.entries s) ≡ (is_some (row_at rows.old.entries s) || same_range s r)) }
+    requires { is_some (row_at rows.old.entries r) ≡ false }
+    ensures shown { OnOk result ((s : ranges.Range) → is_some (row_at rows.new.entries s)
+        ≡ (is_some (row_at rows.old.entries s) || same_range s r)) }
+    ensures list { OnOk result (rows.new.entries ≡ rows.old.entries ++ without_row (r ∷ [])) }
 {
     equality_is_sameness();
     rows.insert(
@@ -56,6 +60,28 @@ fn add(rows: &mut IndexMap<Range, Kept>, r: Range) -> Result<(), NoMemory>
             machine: None,
         },
     )?;
+    Ok(())
+}
+
+/// The same of the i-th start, if the rule allows it.
+fn add_start(rows: &mut IndexMap<Range, Kept>, rule: &VipRule, i: u16) -> Result<(), NoMemory>
+    requires few { i < 8192 }
+    requires none { is_some (row_at rows.old.entries (range_at rule.now.vip (8 * i))) ≡ false }
+    ensures shown { OnOk result ((s : ranges.Range) → is_some (row_at rows.new.entries s)
+        ≡ (is_some (row_at rows.old.entries s)
+        || (allows rule.now (8 * i) && same_range s (range_at rule.now.vip (8 * i))))) }
+    ensures list { OnOk result (rows.new.entries ≡ (if allows rule.now (8 * i)
+        then rows.old.entries ++ without_row (range_at rule.now.vip (8 * i) ∷ []) else rows.old.entries)) }
+{
+    if rule.allows(8 * i) {
+        add(
+            rows,
+            Range {
+                vip: rule.vip,
+                start: 8 * i,
+            },
+        )?;
+    }
     Ok(())
 }
 
@@ -73,29 +99,28 @@ fn high(rule: &VipRule) -> u16
     rule.high
 }
 
-/// Each range that the VIP's rule allows has an entry.
+/// Each range that the rule of a VIP allows has an entry, of which none had one.
 fn add_vip(rows: &mut IndexMap<Range, Kept>, rule: &VipRule) -> Result<(), NoMemory>
-    ensures { OnOk result ((s : ranges.Range) → is_some (row_at rows.new.entries s) ≡ (is_some (row_at rows.old.entries s) || is_in rule.now s)) }
+    requires { (start : ℕ) → is_some (row_at rows.old.entries (range_at rule.now.vip start)) ≡ false }
+    ensures shown { OnOk result ((s : ranges.Range) → is_some (row_at rows.new.entries s)
+        ≡ (is_some (row_at rows.old.entries s) || is_in rule.now s)) }
+    ensures list { OnOk result (rows.new.entries ≡ rows.old.entries ++ without_row (ranges_by rule.now)) }
 {
     let _ = high(rule);
     for i in 0..8192u16 {
-        if rule.allows(8 * i) {
-            add(
-                rows,
-                Range {
-                    vip: rule.vip,
-                    start: 8 * i,
-                },
-            )?;
-        }
+        add_start(rows, rule, i)?;
     }
     Ok(())
 }
 
 impl Ranges {
-    /// Each leasable range, with the number 0 and no machine.
+    /// Each leasable range, with the number 0 and no machine. The cost is, for each VIP, 8,192 starts times its
+    /// endpoints.
+    #[tactic(auto, unfolding(mux_spec::specs::Rows::new_rows))]
     pub fn new(alloc: Global, rules: &LeaseRules) -> Result<Ranges, NoMemory>
-        ensures { IfOk result (λ m. (s : ranges.Range) → is_some (row_at m s) ≡ is_leasable rules.now s) }
+        requires { Once (map (λ rule. rule.vip) rules.now.vips) }
+        ensures shown { IfOk result (λ m. (s : ranges.Range) → is_some (row_at m s) ≡ is_leasable rules.now s) }
+        ensures list { IfOk result (λ m. m ≡ new_rows rules.now) }
     {
         let mut rows = nothing(alloc);
         for rule in rules.vips.as_slice() {
@@ -111,7 +136,8 @@ impl Ranges {
         find(&self.rows, r)
     }
 
-    fn kept(&self, r: &Range) -> Kept
+    /// What is kept of the range: the number 0 and no machine where it has no entry.
+    pub fn kept(&self, r: &Range) -> Kept
         ensures { result ≡ kept_at self.now r.now }
     {
         self.row(r).unwrap_or(Kept {

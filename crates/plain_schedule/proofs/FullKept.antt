@@ -6,6 +6,7 @@ use Rattle.wire_core.specs.declared.address.Ip4.{Ip4}
 use Rattle.wire_core.specs.declared.cause.DropCause.{DropCause}
 use Rattle.wire_core.specs.declared.flow.FlowKey.{FlowKey}
 use Rattle.wire_core.specs.declared.flow.Proto.{Proto}
+use Rattle.wire_core.proofs.SameLaws.{proto_is}
 use Rattle.lease_spec.specs.declared.row.Row.{Row}
 use Rattle.lease_spec.specs.Table.{rule_of}
 use Rattle.port_leases.specs.TableState.{TableState, onward, rows_of}
@@ -17,7 +18,7 @@ use Rattle.plain_schedule.specs.Schedule.{Plain, start}
 use Rattle.plain_schedule.specs.FullLeases.{AreFull, end_of, plain, same_end, up_to}
 use Rattle.plain_schedule.specs.Kept.{IsKept, IsSound}
 use Rattle.plain_schedule.proofs.FullLaws.{full_opens, one_more_full, past_full}
-use Rattle.plain_schedule.proofs.KeyLaws.{address_is, both, number_is, proto_is}
+use Rattle.plain_schedule.proofs.KeyLaws.{address_is, both, number_is}
 use Rattle.plain_schedule.proofs.Kept.{rows}
 use Rattle.plain_schedule.proofs.Openings.{IsNew, found_new, sound_opens, with_one}
 use Rattle.plain_schedule.proofs.SafetyLaws.{sound_start}

@@ -65,7 +65,8 @@ small_at cfg word words =
     else None
 
 abbrev pub single_by : ConfigParts → List ℕ → List (List ℕ) → Option Read
-single_by cfg word words = if bytes_eq word (codes "inject") then inject_with (inject_head cfg words) else small_at cfg word words
+single_by cfg word words =
+    if bytes_eq word (codes "inject") then inject_with (inject_head cfg words) else small_at cfg word words
 
 -- an event at one node, and the words behind it
 abbrev pub single_at : ConfigParts → List (List ℕ) → Option Read
@@ -74,7 +75,8 @@ single_at cfg (word ∷ words) = single_by cfg word words
 
 -- whether the entry of a step is kept
 abbrev pub kept_of : List ℕ → Option Bool
-kept_of word = if bytes_eq word (codes "keep") then Some true else if bytes_eq word (codes "lose") then Some false else None
+kept_of word =
+    if bytes_eq word (codes "keep") then Some true else if bytes_eq word (codes "lose") then Some false else None
 
 unfoldable pub kept_at : List (List ℕ) → Option Bool
 kept_at words = do
@@ -93,7 +95,8 @@ during_of node (Some e) = during_with node e.0 (kept_at e.1)
 -- a crash, and what it falls in
 abbrev pub crash_with : ConfigParts → NodeId → List (List ℕ) → Option Event
 crash_with cfg node [] = Some (event.Crash node)
-crash_with cfg node (word ∷ words) = if bytes_eq word (codes "during") then during_of node (single_at cfg words) else None
+crash_with cfg node (word ∷ words) =
+    if bytes_eq word (codes "during") then during_of node (single_at cfg words) else None
 
 abbrev pub crash_at : ConfigParts → Option (NodeId × List (List ℕ)) → Option Event
 crash_at cfg None = None

@@ -32,4 +32,5 @@ abbrev pub event_text : Event → List ℕ
 event_text (event.Single e) = single_text e
 event_text (event.Settle n) = codes "settle " ++ decimal n
 event_text (event.Crash node) = codes "crash " ++ node_text node
-event_text (event.During node e keep) = codes "crash " ++ (node_text node ++ (codes " during " ++ (single_text e ++ kept_text keep)))
+event_text (event.During node e keep) =
+    codes "crash " ++ (node_text node ++ (codes " during " ++ (single_text e ++ kept_text keep)))

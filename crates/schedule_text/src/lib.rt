@@ -11,7 +11,7 @@ mod schedule;
 mod write;
 
 pub use event::{Event, EventList, Single};
-pub use laws::reads_back;
+pub use laws::{none_is_forged, reads_back};
 pub use line::{Line, Word};
 pub use print::{print_line, print_line_bytes};
 pub use schedule::{LineFault, read_schedule};

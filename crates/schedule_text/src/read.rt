@@ -73,7 +73,8 @@ fn inject_with<'a>(
     head: Option<Head<'a>>,
 ) -> Result<Option<(Single, Option<&'a [u8]>)>, NoMemory>
     ensures { IfOk result (λ r. option_map (λ w. (w.0, parts_of 32 (option_copied w.1))) r
-        ≡ inject_with (option_map (λ h. ((h.node, h.from, h.text.now), parts_of 32 (option_copied h.rest))) head.entry)) }
+        ≡ inject_with
+        (option_map (λ h. ((h.node, h.from, h.text.now), parts_of 32 (option_copied h.rest))) head.entry)) }
 {
     let Some(head) = head else {
         return Ok(None);
