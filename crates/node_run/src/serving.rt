@@ -112,9 +112,9 @@ fn counted(served: Served, report: Option<Report>) -> Served
     }
 }
 
-/// Serves exactly so many turns. In each the clock is read; where this is the first turn or 100 milliseconds have passed
-/// since the last tick, the turn is a tick; else it is one `next`, and what arrives is handled. The room for what arrives
-/// is taken first.
+/// Serves exactly so many turns. In each the clock is read; where this is the first turn or 100 milliseconds have
+/// passed since the last tick, the turn is a tick; else it is one `next`, and what arrives is handled. The room for
+/// what arrives is taken first.
 pub fn serve<C: Core, D: Disk, L: Link, K: Clock>(
     alloc: Global,
     node: &mut Node<C, D>,

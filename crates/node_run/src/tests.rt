@@ -1,4 +1,5 @@
-// Serving over a stand-in core, a link and a clock in memory: which turns tick, what is counted, and how a fault ends it.
+// Serving over a stand-in core, a link and a clock in memory: which turns tick, what is counted, and how a fault ends
+// it.
 ghost use Rattle.std.specs.Prelude.{◌≡◌, [], ◌∷◌, None, true, IfOk};
 ghost use Rattle.node_core.specs.Handling.{is_ready};
 ghost use Rattle.wire_core.specs.declared.cause.DropCause.TheVariants.{BadFrame};

@@ -15,8 +15,8 @@ pub fn sites()
     ensures other { (w : World) (x y : NodeId) (s : Site) → y ≢ x → site (put w x s) y ≡ site w y }
 {}
 
-/// Each event that a schedule may name is a step of one node, of one of six shapes; it leaves all other nodes as they were, and a front of each
-/// disk and of what was sent.
+/// Each event that a schedule may name is a step of one node, of one of six shapes; it leaves all other nodes as they
+/// were, and a front of each disk and of what was sent.
 pub fn shapes()
     ensures shape { (cfg : ConfigParts) (w : World) (b : Basic) → IsNamed cfg b → Shape cfg w (happens cfg w b) }
     ensures grows { (cfg : ConfigParts) (w : World) (b : Basic) → IsNamed cfg b
