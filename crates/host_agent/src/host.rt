@@ -1,0 +1,118 @@
+ghost use Rattle.std.specs.Prelude.{◌≡◌, ◌++◌, ◌∷◌, [], None, IfOk, OnOk};
+ghost use Rattle.agent_spec.specs.Packets.{ask_for, enqueued, stays};
+ghost use Rattle.host_agent.specs.Seen.{as_is};
+ghost use Rattle.node_spec.specs.Steps.{turned};
+
+use agent_spec::Asked;
+use control_msg::Message;
+use hold_queue::HoldQueue;
+use node_spec::say;
+use std::alloc::Global;
+use std::marker::Model;
+use vip_config::Config;
+use wire_core::{DropCause, Ip4, NoMemory, NodeId, Note, Step};
+
+/// Who asks, and whom: the agent's boot, and the replica that is asked.
+#[derive(Clone, Copy, Debug, PartialEq, Eq)]
+pub struct Origin {
+    pub boot: u64,
+    /// A replica's index.
+    pub hint: u8,
+}
+
+/// A machine of the agent's own: its held packets, and its asks for ranges.
+#[derive(Drop)]
+pub struct Host {
+    machine: Ip4,
+    queue: HoldQueue,
+    /// The number of the last ask, at first 0.
+    seq: u64,
+    ask: Option<Asked>,
+}
+
+impl Model for Host {
+    ghost use Rattle.agent_spec.specs.Agent.{Host};
+
+    ghost Value = { Host };
+
+    ghost view = { λ h. record { machine = h.machine; queue = h.queue; seq = h.seq; ask = h.ask } };
+}
+
+/// A packet's bytes in a buffer of their own.
+fn copied(alloc: Global, packet: &[u8]) -> Result<Vec<u8>, NoMemory>
+    ensures { IfOk result (λ bytes. bytes.items ≡ packet.now) }
+{
+    let mut bytes = Vec::new(alloc);
+    bytes.extend_from_slice(packet)?;
+    Ok(bytes)
+}
+
+/// One packet more in the queue, and how many are held then. `None` where it is full.
+fn enqueue(queue: &mut HoldQueue, packet: Vec<u8>) -> Option<usize>
+    ensures { (queue.new, result) ≡ enqueued queue.old packet.items }
+{
+    match queue.hold(packet) {
+        Ok(count) => Some(count),
+        Err(_) => None,
+    }
+}
+
+impl Host {
+    /// An Ask to the replica that is asked, where none is out and the number isn't the greatest.
+    #[tactic(auto, using(node_spec::proofs::Turning::send_turned, node_spec::proofs::Turning::quiet_turned), unfolding(agent_spec::specs::Packets::ask_for))]
+    pub(crate) fn ask_for(
+        &mut self,
+        alloc: Global,
+        cfg: &Config,
+        step: &mut Step,
+        origin: &Origin,
+        now: u64,
+    ) -> Result<(), NoMemory>
+        ensures turn { OnOk result
+            ((self.new, step.new) ≡ turned as_is cfg.now step.old (ask_for origin.now.boot origin.now.hint now self.old)) }
+        ensures machine { self.new.machine ≡ self.old.machine }
+    {
+        if self.ask.is_some() || self.seq == u64::MAX {
+            return Ok(());
+        }
+        let seq = self.seq + 1;
+        let ask = Message::Ask {
+            boot: origin.boot,
+            machine: self.machine,
+            seq,
+        };
+        say(alloc, cfg, step, NodeId::Replica(origin.hint), &ask)?;
+        self.seq = seq;
+        self.ask = Some(Asked { seq, at: now });
+        Ok(())
+    }
+
+    /// A packet for which there is no port is held, and a range is asked for.
+    #[tactic(auto, using(node_spec::proofs::Turning::drop_turned), unfolding(agent_spec::specs::Packets::stays))]
+    pub(crate) fn hold(
+        &mut self,
+        alloc: Global,
+        cfg: &Config,
+        step: &mut Step,
+        origin: &Origin,
+        now: u64,
+        packet: &[u8],
+    ) -> Result<(), NoMemory>
+        ensures turn { OnOk result
+            ((self.new, step.new)
+            ≡ turned as_is cfg.now step.old (stays origin.now.boot origin.now.hint now self.old packet.now)) }
+        ensures machine { self.new.machine ≡ self.old.machine }
+    {
+        let bytes = copied(alloc, packet)?;
+        let Some(count) = enqueue(&mut self.queue, bytes) else {
+            let cause = DropCause::QueueFull;
+            step.note(Note::Dropped { cause })?;
+            return Ok(());
+        };
+        let machine = self.machine;
+        let count = count as u64;
+        step.note(Note::Queued { machine, count })?;
+        self.ask_for(alloc, cfg, step, origin, now)?;
+        Ok(())
+    }
+}
