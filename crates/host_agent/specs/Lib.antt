@@ -1,3 +1,5 @@
 pub mod Seen
 pub mod Entries
 pub mod Hearing
+pub mod Leaving
+pub mod Retries

@@ -1,5 +1,7 @@
-ghost use Rattle.std.specs.Prelude.{◌≡◌, ◌++◌, ◌∷◌, [], None, IfOk, OnOk};
-ghost use Rattle.agent_spec.specs.Packets.{ask_for, enqueued, stays};
+ghost use Rattle.std.specs.Prelude.{◌≡◌, ◌≤◌, ◌<◌, ◌++◌, ◌∷◌, [], length, nat_le, None, IfOk, OnOk};
+ghost use Rattle.agent_spec.specs.Packets.{ask_for, enqueued, stays, with_packet};
+ghost use Rattle.agent_spec.specs.Answers.{is_ask};
+ghost use Rattle.host_agent.specs.Retries.{without_ask};
 ghost use Rattle.host_agent.specs.Seen.{as_is};
 ghost use Rattle.node_spec.specs.Steps.{turned};
 
@@ -9,6 +11,7 @@ use hold_queue::HoldQueue;
 use node_spec::say;
 use std::alloc::Global;
 use std::marker::Model;
+use std::mem;
 use vip_config::Config;
 use wire_core::{DropCause, Ip4, NoMemory, NodeId, Note, Step};
 
@@ -57,7 +60,23 @@ fn enqueue(queue: &mut HoldQueue, packet: Vec<u8>) -> Option<usize>
     }
 }
 
+/// Whether the ask with this number is out.
+pub(crate) fn is_ask(seq: u64, ask: &Option<Asked>) -> bool
+    ensures { result ≡ is_ask seq ask.now }
+{
+    match ask {
+        Some(asked) => asked.seq == seq,
+        None => false,
+    }
+}
+
 impl Host {
+    pub(crate) fn machine(&self) -> Ip4
+        ensures { result ≡ self.now.machine }
+    {
+        self.machine
+    }
+
     /// An Ask to the replica that is asked, where none is out and the number isn't the greatest.
     #[tactic(auto, using(node_spec::proofs::Turning::send_turned, node_spec::proofs::Turning::quiet_turned), unfolding(agent_spec::specs::Packets::ask_for))]
     pub(crate) fn ask_for(
@@ -114,5 +133,34 @@ impl Host {
         step.note(Note::Queued { machine, count })?;
         self.ask_for(alloc, cfg, step, origin, now)?;
         Ok(())
+    }
+
+    /// Whether a packet is held.
+    pub(crate) fn holds_packet(&self) -> bool
+        ensures { result ≡ nat_le 1 (length self.now.queue) }
+    {
+        self.queue.len() >= 1
+    }
+
+    /// Holds a packet again, for which there is room.
+    pub(crate) fn keep(&mut self, packet: Vec<u8>)
+        requires { length self.old.queue < 64 }
+        ensures { self.new ≡ with_packet self.old packet.items }
+    {
+        let _ = self.queue.hold(packet);
+    }
+
+    /// The ask with this number is over, and the held packets are taken.
+    pub(crate) fn begin(&mut self, alloc: Global, seq: u64) -> Result<HoldQueue, NoMemory>
+        ensures taken { IfOk result (λ waiting. waiting ≡ self.old.queue) }
+        ensures few { IfOk result (λ waiting. length waiting ≤ 64) }
+        ensures left { OnOk result (self.new ≡ without_ask seq self.old) }
+        ensures machine { self.new.machine ≡ self.old.machine }
+    {
+        let fresh = HoldQueue::new(alloc)?;
+        if is_ask(seq, &self.ask) {
+            self.ask = None;
+        }
+        Ok(mem::replace(&mut self.queue, fresh))
     }
 }

@@ -4,6 +4,11 @@
 mod hearing;
 mod host;
 mod leaving;
+mod looks;
+mod machine;
+mod grant;
 mod traffic;
+mod trying;
+mod using;
 
 pub use host::Host;

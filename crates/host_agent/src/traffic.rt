@@ -1,21 +1,20 @@
 ghost use Rattle.std.specs.Prelude.{◌≡◌, OnOk, None, length, nat_le, false};
 ghost use Rattle.agent_spec.specs.Connections.{by_private, by_public, most, private_key, public_key};
-ghost use Rattle.agent_spec.specs.Traffic.{close_conn, open_conn};
+ghost use Rattle.agent_spec.specs.Traffic.{close_conn, inbound_touched, open_conn, touched};
 ghost use Rattle.host_agent.specs.Seen.{as_is};
 ghost use Rattle.node_spec.specs.Steps.{turned};
 
-use crate::parts::{Flows, Opened, conn_of, private_key};
-use crate::parts::Ports;
+use agent_flows::{Flows, conn_of, private_key};
+use agent_ports::Ports;
 use agent_spec::Connection;
 use std::marker::Model;
 use vip_config::Config;
 use wire_core::{Act, NoMemory, Step};
 
-/// What an agent's packets change: its ranges, its connections and its inbound entries. Times are in milliseconds.
+/// What an agent's packets change: its ranges, its connections and its inbound entries. The time is in milliseconds.
 #[derive(Drop)]
 pub struct Traffic {
     pub(crate) ports: Ports,
-    pub(crate) conns: Flows,
     pub(crate) inbound: Flows,
     pub(crate) time: u64,
 }
@@ -25,7 +24,12 @@ impl Model for Traffic {
 
     ghost Value = { Traffic };
 
-    ghost view = { λ t. record { ranges = t.ports; conns = t.conns; inbound = t.inbound; time = t.time } };
+    ghost view = { λ t. record {
+      ranges = t.ports.ranges;
+      conns = t.ports.conns;
+      inbound = t.inbound;
+      time = t.time;
+    } };
 }
 
 impl Traffic {
@@ -37,10 +41,23 @@ impl Traffic {
         requires room { nat_le most (length self.old.conns) ≡ false }
         ensures { OnOk result ((self.new, step.new) ≡ turned as_is cfg.now step.old (open_conn self.old c.now)) }
     {
-        self.conns.open(*c)?;
-        self.ports.opened(c.n);
+        self.ports.open(*c)?;
         step.act(Act::Open { c: conn_of(c) })?;
         Ok(())
+    }
+
+    /// The connection was used now.
+    pub(crate) fn touch(&mut self, c: &Connection)
+        ensures { self.new ≡ touched self.old c.now }
+    {
+        self.ports.touch(&private_key(c), self.time);
+    }
+
+    /// The inbound entry was used now.
+    pub(crate) fn touch_inbound(&mut self, c: &Connection)
+        ensures { self.new ≡ inbound_touched self.old c.now }
+    {
+        self.inbound.touch(&private_key(c), self.time);
     }
 
     /// A connection closes.
@@ -48,8 +65,7 @@ impl Traffic {
     pub(crate) fn close(&mut self, cfg: &Config, step: &mut Step, c: &Connection) -> Result<(), NoMemory>
         ensures { OnOk result ((self.new, step.new) ≡ turned as_is cfg.now step.old (close_conn c.now self.old)) }
     {
-        self.conns.close(&private_key(c));
-        self.ports.closed(c.n, self.time);
+        self.ports.close(c, self.time);
         step.act(Act::Close { c: conn_of(c) })?;
         Ok(())
     }
