@@ -3,3 +3,4 @@ pub mod Entries
 pub mod Hearing
 pub mod Leaving
 pub mod Retries
+pub mod Hosts

@@ -18,6 +18,7 @@ use wire_core::{Act, NoMemory, Step};
 
 /// Tries a held packet again, now that there is another range. It is read again; a fault, which none has, drops it.
 /// Where there is no port for it still, its length.
+#[tactic(auto, using(crate::proofs::Tries::quiet_tried))]
 fn leaves(
     alloc: Global,
     cfg: &Config,
@@ -41,6 +42,7 @@ fn leaves(
 }
 
 /// A held packet runs through the rows again. Without a port it stays held.
+#[tactic(auto, unfolding(agent_spec::specs::Answers::retry))]
 fn retry(
     alloc: Global,
     cfg: &Config,

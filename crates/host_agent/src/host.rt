@@ -1,7 +1,7 @@
 ghost use Rattle.std.specs.Prelude.{◌≡◌, ◌≤◌, ◌<◌, ◌++◌, ◌∷◌, [], length, nat_le, None, IfOk, OnOk};
 ghost use Rattle.agent_spec.specs.Packets.{ask_for, enqueued, stays, with_packet};
 ghost use Rattle.agent_spec.specs.Answers.{is_ask};
-ghost use Rattle.host_agent.specs.Retries.{without_ask};
+ghost use Rattle.host_agent.specs.Retries.{with_denials, without_ask};
 ghost use Rattle.host_agent.specs.Seen.{as_is};
 ghost use Rattle.node_spec.specs.Steps.{turned};
 
@@ -70,7 +70,37 @@ pub(crate) fn is_ask(seq: u64, ask: &Option<Asked>) -> bool
     }
 }
 
+/// Drops each of the held packets.
+fn deny_each(queue: &mut HoldQueue, step: &mut Step) -> Result<(), NoMemory>
+    ensures left { OnOk result (queue.new ≡ []) }
+    ensures notes { OnOk result (step.new ≡ with_denials queue.old step.old) }
+{
+    while let Some(_packet) = queue.take() {
+        let cause = DropCause::Denied;
+        step.note(Note::Dropped { cause })?;
+    }
+    Ok(())
+}
+
 impl Host {
+    /// Whether the ask with this number is out.
+    pub(crate) fn is_asking(&self, seq: u64) -> bool
+        ensures { result ≡ is_ask seq self.now.ask }
+    {
+        is_ask(seq, &self.ask)
+    }
+
+    /// The ask is over, and each held packet is dropped.
+    pub(crate) fn refuse(&mut self, step: &mut Step) -> Result<(), NoMemory>
+        ensures left { OnOk result (self.new ≡ record self.old { queue = []; ask = None }) }
+        ensures notes { OnOk result (step.new ≡ with_denials self.old.queue step.old) }
+        ensures machine { self.new.machine ≡ self.old.machine }
+    {
+        deny_each(&mut self.queue, step)?;
+        self.ask = None;
+        Ok(())
+    }
+
     pub(crate) fn machine(&self) -> Ip4
         ensures { result ≡ self.now.machine }
     {

@@ -1,7 +1,10 @@
 //! A host's agent.
 #![tactic(auto)]
 
+mod agent;
+mod answers;
 mod hearing;
+mod notes;
 mod host;
 mod leaving;
 mod looks;
@@ -11,4 +14,5 @@ mod traffic;
 mod trying;
 mod using;
 
+pub use agent::Agent;
 pub use host::Host;

@@ -1,4 +1,6 @@
-ghost use Rattle.std.specs.Prelude.{◌≡◌, OnOk, None, length, nat_le, false};
+ghost use Rattle.std.specs.Prelude.{◌≡◌, OnOk, None, length, nat_le, true, false};
+ghost use Rattle.agent_spec.specs.Agent.{with_ranges};
+ghost use Rattle.agent_spec.specs.Ranges.{is_returning, returned};
 ghost use Rattle.agent_spec.specs.Connections.{by_private, by_public, most, private_key, public_key};
 ghost use Rattle.agent_spec.specs.Traffic.{close_conn, inbound_touched, open_conn, touched};
 ghost use Rattle.host_agent.specs.Seen.{as_is};
@@ -58,6 +60,15 @@ impl Traffic {
         ensures { self.new ≡ inbound_touched self.old c.now }
     {
         self.inbound.touch(&private_key(c), self.time);
+    }
+
+    /// The number needn't be given back again. Answers whether it was given back; else nothing changes.
+    pub(crate) fn returned(&mut self, n: u64) -> bool
+        ensures was { result ≡ is_returning n self.old.ranges }
+        ensures yes { result ≡ true → self.new ≡ with_ranges self.old (returned n self.old.ranges) }
+        ensures no { result ≡ false → self.new ≡ self.old }
+    {
+        self.ports.returned(n)
     }
 
     /// A connection closes.
