@@ -4,3 +4,4 @@ pub mod Hearing
 pub mod Leaving
 pub mod Retries
 pub mod Hosts
+pub mod Transfers

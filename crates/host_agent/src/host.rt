@@ -5,6 +5,7 @@ ghost use Rattle.host_agent.specs.Retries.{with_denials, without_ask};
 ghost use Rattle.host_agent.specs.Seen.{as_is};
 ghost use Rattle.node_spec.specs.Steps.{turned};
 
+use crate::bytes::copied;
 use agent_spec::Asked;
 use control_msg::Message;
 use hold_queue::HoldQueue;
@@ -41,15 +42,6 @@ impl Model for Host {
     ghost view = { λ h. record { machine = h.machine; queue = h.queue; seq = h.seq; ask = h.ask } };
 }
 
-/// A packet's bytes in a buffer of their own.
-fn copied(alloc: Global, packet: &[u8]) -> Result<Vec<u8>, NoMemory>
-    ensures { IfOk result (λ bytes. bytes.items ≡ packet.now) }
-{
-    let mut bytes = Vec::new(alloc);
-    bytes.extend_from_slice(packet)?;
-    Ok(bytes)
-}
-
 /// One packet more in the queue, and how many are held then. `None` where it is full.
 fn enqueue(queue: &mut HoldQueue, packet: Vec<u8>) -> Option<usize>
     ensures { (queue.new, result) ≡ enqueued queue.old packet.items }
@@ -75,7 +67,7 @@ fn deny_each(queue: &mut HoldQueue, step: &mut Step) -> Result<(), NoMemory>
     ensures left { OnOk result (queue.new ≡ []) }
     ensures notes { OnOk result (step.new ≡ with_denials queue.old step.old) }
 {
-    while let Some(_packet) = queue.take() {
+    while let Some(packet) = queue.take() {
         let cause = DropCause::Denied;
         step.note(Note::Dropped { cause })?;
     }

@@ -3,6 +3,8 @@
 
 mod agent;
 mod answers;
+mod bytes;
+mod handing;
 mod hearing;
 mod notes;
 mod host;

@@ -14,5 +14,5 @@ invariant-loop-bytes l = record {
   machine : l.host.machine ≡ l.fn.host.machine;
 }
 
-pub decreases-loop-bytes : goal.decreases-loop-bytes
+abbrev pub decreases-loop-bytes : goal.decreases-loop-bytes
 decreases-loop-bytes l = length l.waiting

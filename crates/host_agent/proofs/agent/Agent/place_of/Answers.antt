@@ -7,5 +7,5 @@ use Rattle.host_agent.proofs.agent.Agent.place_of.Goals as goal
 pub returns : goal.returns
 returns c =
     let place : c.get_index_of.result ≡ position (λ (a : Ip4). same_ip c.args.machine a) c.self.inside.machines.keys = search rules in
-    place ∙ ap (λ (as : List Ip4). position (λ (a : Ip4). same_ip c.args.machine a) as) c.self.invariant.places_are
+    place ∙ ap (λ (keys : List Ip4). position (λ (a : Ip4). same_ip c.args.machine a) keys) c.self.invariant.places_are
     ∙ place_of_machine c.args.machine c.args.self.now.lists.hosts
