@@ -1,9 +1,12 @@
 -- Numerals and their numbers.
-use Rattle.std.proofs.Common.{◌≡◌, ◌∙◌, ℕ, zero, suc, not, ◌+◌, ◌-◌, ◌*◌, ◌^◌, ◌<◌, ◌≤◌, Bool, true, false, cond, ◌&&◌, ◌||◌, nat_le, nat_lt, ◌==◌, if◌then◌else◌, List, [], ◌∷◌, length, get_or, slice_index, Option, None, Some, refl, sym, ap, arith}
+use Rattle.std.proofs.Common.{◌≡◌, ◌∙◌, ℕ, zero, suc, not, ◌+◌, ◌-◌, ◌*◌, ◌^◌, ◌<◌, ◌≤◌, Bool, true, false, cond, ◌&&◌}
+use Rattle.std.proofs.Common.{◌||◌, nat_le, nat_lt, ◌==◌, if◌then◌else◌, List, [], ◌∷◌, length, get_or, slice_index}
+use Rattle.std.proofs.Common.{Option, None, Some, refl, sym, ap, arith}
 use Rattle.std.specs.Fmt.{decimal}
 use Rattle.std.specs.Str.{all_ascii_digits}
 use Rattle.std.specs.Str.Parse.{digits_value, digits_value_after}
-use Rattle.std.proofs.lemmas.Fmt.{decimal-digits_value, digits_decimal, digits_value-decimal, decimal_nonempty, first_decimal, decimal_digit}
+use Rattle.std.proofs.lemmas.Fmt.{decimal-digits_value, digits_decimal, digits_value-decimal, decimal_nonempty}
+use Rattle.std.proofs.lemmas.Fmt.{first_decimal, decimal_digit}
 use Rattle.std.proofs.lemmas.Str.Parse.{IsNumeralModel, numerals_by_value, tells_all_ascii_digits}
 use Rattle.std.proofs.lemmas.Bool.Decides.{nat_tests}
 use Rattle.std.proofs.lemmas.Bool.{leb-true, leb-false, lt-leb, le-leb}
@@ -34,11 +37,15 @@ goes_on : (t : Bool) (limit m : ℕ) (bs : List ℕ) → nat_le m limit ≡ t
     → (m ≤ limit → number_after limit m bs ≡ wanted (all_ascii_digits bs) limit (digits_value_after 10 m bs))
     → cond t (number_after limit m bs) None ≡ wanted (all_ascii_digits bs) limit (digits_value_after 10 m bs)
 goes_on true limit m bs e more = more (leb-true m limit e)
-goes_on false limit m bs e more = sym (stopped (all_ascii_digits bs) limit (digits_value_after 10 m bs) (let above = leb-false m limit e in omega (arith, grows m bs)))
+goes_on false limit m bs e more =
+    sym (stopped (all_ascii_digits bs) limit (digits_value_after 10 m bs) (let above =
+    leb-false m limit e in omega (arith, grows m bs)))
 
 by_digit : (t : Bool) (limit n b : ℕ) (bs : List ℕ) → (nat_le 48 b && nat_le b 57) ≡ t
-    → (t ≡ true → cond (nat_le (10 * n + (b - 48)) limit) (number_after limit (10 * n + (b - 48)) bs) None ≡ wanted (all_ascii_digits bs) limit (digits_value_after 10 (n * 10 + digit_value b) bs))
-    → cond (t && nat_le (10 * n + (b - 48)) limit) (number_after limit (10 * n + (b - 48)) bs) None ≡ wanted (t && all_ascii_digits bs) limit (digits_value_after 10 (n * 10 + digit_value b) bs)
+    → (t ≡ true → cond (nat_le (10 * n + (b - 48)) limit) (number_after limit (10 * n + (b - 48)) bs) None
+    ≡ wanted (all_ascii_digits bs) limit (digits_value_after 10 (n * 10 + digit_value b) bs))
+    → cond (t && nat_le (10 * n + (b - 48)) limit) (number_after limit (10 * n + (b - 48)) bs) None
+    ≡ wanted (t && all_ascii_digits bs) limit (digits_value_after 10 (n * 10 + digit_value b) bs)
 by_digit true limit n b bs e more = more refl
 by_digit false limit n b bs e more = refl
 
@@ -47,7 +54,8 @@ both_are true q e = (refl, e)
 both_are false q e = absurd cc
 
 -- reading from the left stops early exactly where the whole is no number within the limit
-pub after_is : (limit n : ℕ) (text : List ℕ) → n ≤ limit → number_after limit n text ≡ wanted (all_ascii_digits text) limit (digits_value_after 10 n text)
+pub after_is : (limit n : ℕ) (text : List ℕ) → n ≤ limit
+    → number_after limit n text ≡ wanted (all_ascii_digits text) limit (digits_value_after 10 n text)
 unfolding number_after
 after_is limit n [] le = rw (le-leb n limit le) refl
 after_is limit n (b ∷ bs) le =
@@ -55,11 +63,13 @@ after_is limit n (b ∷ bs) le =
     let k = both_are (nat_le 48 b) (nat_le b 57) t in
     let value = digit b (leb-true 48 b k.0) (leb-true b 57 k.1) in
     let same : n * 10 + digit_value b ≡ 10 * n + (b - 48) = omega arith in
-    rw same (goes_on (nat_le (10 * n + (b - 48)) limit) limit (10 * n + (b - 48)) bs refl (λ within. after_is limit (10 * n + (b - 48)) bs within)))
+    rw same (goes_on (nat_le (10 * n + (b - 48)) limit) limit (10 * n + (b - 48)) bs refl
+    (λ within. after_is limit (10 * n + (b - 48)) bs within)))
 
 -- ---- numerals
 
-joined : (digits led : Bool) (limit value : ℕ) → led ≡ false → wanted digits limit value ≡ wanted (digits && not led) limit value
+joined : (digits led : Bool) (limit value : ℕ) → led ≡ false
+    → wanted digits limit value ≡ wanted (digits && not led) limit value
 joined true true limit value e = absurd cc
 joined true false limit value e = refl
 joined false led limit value e = refl
@@ -74,7 +84,8 @@ is_led text = (length text == 0) || ((slice_index text 0 == 48) && nat_lt 1 (len
 
 -- a text that isn't empty and has no leading zero
 pub digits_are : (limit : ℕ) (text : List ℕ) → is_led text ≡ false → number_after limit 0 text ≡ number_of limit text
-digits_are limit text e = after_is limit 0 text (omega arith) ∙ joined (all_ascii_digits text) (is_led text) limit (digits_value 10 text) e
+digits_are limit text e =
+    after_is limit 0 text (omega arith) ∙ joined (all_ascii_digits text) (is_led text) limit (digits_value 10 text) e
 
 pub no_number : (limit : ℕ) (text : List ℕ) → is_led text ≡ true → number_of limit text ≡ None
 no_number limit text e = refused (all_ascii_digits text) (is_led text) limit (digits_value 10 text) e
@@ -94,13 +105,15 @@ not_led false led e = absurd cc
 led_parts : (text : List ℕ) → is_led text ≡ false → (0 < length text) × (get_or text 0 0 ≡ 48 → length text ≡ 1)
 led_parts text e = grind (arith, nat_tests)
 
-pub number_spelled : (limit n : ℕ) (text : List ℕ) → limit < 2 ^ 64 → number_of limit text ≡ Some n → (text ≡ decimal n) × (n ≤ limit)
+pub number_spelled : (limit n : ℕ) (text : List ℕ) → limit < 2 ^ 64 → number_of limit text ≡ Some n
+    → (text ≡ decimal n) × (n ≤ limit)
 number_spelled limit n text small e =
     let p = passes (is_numeral text) (nat_le (digits_value 10 text) limit) (digits_value 10 text) n e in
     let d = not_led (all_ascii_digits text) (is_led text) p.0 in
     let parts = led_parts text d.1 in
     let within : digits_value 10 text ≤ limit = leb-true _ _ p.1 in
-    let again : decimal (digits_value 10 text) ≡ text = decimal-digits_value own text d.0 parts.0 parts.1 (omega arith) in
+    let again : decimal (digits_value 10 text) ≡ text =
+    decimal-digits_value own text d.0 parts.0 parts.1 (omega arith) in
     (sym again ∙ ap decimal p.2, omega (arith, p.2))
 
 led_is : (text : List ℕ) → 0 < length text → (get_or text 0 0 ≡ 48 → length text ≡ 1) → is_led text ≡ false

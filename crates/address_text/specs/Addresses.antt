@@ -17,7 +17,8 @@ ip n = record { 0 = n }
 -- the four bytes of an address, the highest first, in decimal between dots
 abbrev pub address_text : Ip4 → List ℕ
 address_text a =
-    decimal (a.0 / 16777216 % 256) ++ codes "." ++ decimal (a.0 / 65536 % 256) ++ codes "." ++ decimal (a.0 / 256 % 256) ++ codes "." ++ decimal (a.0 % 256)
+    decimal (a.0 / 16777216 % 256) ++ codes "." ++ decimal (a.0 / 65536 % 256)
+    ++ codes "." ++ decimal (a.0 / 256 % 256) ++ codes "." ++ decimal (a.0 % 256)
 
 -- four numbers up to 255 between dots
 unfoldable pub address_of : List ℕ → Option Ip4

@@ -9,7 +9,8 @@ use Rattle.address_text.specs.Addresses.{address_text, address_of, socket_text, 
 -- a text is read as n exactly where it is n's decimal text and n is within the limit
 pub record NumbersHaveOneSpelling : Type 0 where
   pub read : (limit n : ℕ) → n ≤ limit → limit < 2 ^ 64 → number_of limit (decimal n) ≡ Some n
-  pub spelled : (limit n : ℕ) (text : List ℕ) → limit < 2 ^ 64 → number_of limit text ≡ Some n → (text ≡ decimal n) × (n ≤ limit)
+  pub spelled : (limit n : ℕ) (text : List ℕ) → limit < 2 ^ 64 → number_of limit text ≡ Some n
+      → (text ≡ decimal n) × (n ≤ limit)
 
 pub record AddressesHaveOneSpelling : Type 0 where
   pub read : (a : Ip4) → a.0 < 2 ^ 32 → address_of (address_text a) ≡ Some a

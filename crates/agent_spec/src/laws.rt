@@ -8,8 +8,8 @@ ghost use Rattle.node_spec.specs.Turns.{Input};
 ghost use Rattle.vip_config.specs.declared.parts.ConfigParts.{ConfigParts};
 ghost use Rattle.wire_core.specs.declared.entry.Entry.{Entry};
 
-/// No two connections of an agent have one private key, and no two one public key: so it opens, and so it stays over each
-/// turn, and over a Redirect as it will be taken.
+/// No two connections of an agent have one private key, and no two one public key: so it opens, and so it stays over
+/// each turn, and over a Redirect as it will be taken.
 pub fn unique_keys()
     ensures opened { (c : ConfigParts) (index : ℕ) (entries : List Entry)
         → KeysApart (opened_agent c index entries).traffic.conns }

@@ -1,12 +1,10 @@
-//! The program over the real standard streams. It is the only crate that touches the world; all that it does is in
-//! `ananta_top::run`.
+//! The program over the machine that it runs on: all that it does is in `ananta_top::run`, and what it touches in
+//! `real_io`.
 #![tactic(auto)]
 
-mod edge;
-
-use crate::edge::{Stream, StreamSink};
 use ananta_top::{Status, run};
-use outside_io::{MemClock, NoHost, Reading};
+use outside_io::Reading;
+use real_io::{RealHost, SteadyClock, Stream, StreamSink};
 use std::alloc::AllocError;
 use std::env;
 use std::process::ExitCode;
@@ -26,8 +24,8 @@ fn main(rt: HostRuntime) -> ExitCode {
     let mut out = StreamSink::new(Stream::Out(rt.stdout()));
     let mut err = StreamSink::new(Stream::Err(rt.stderr()));
     let mut input = Reading::new(rt.stdin());
-    let mut host = NoHost::new();
-    let mut clock = MemClock::new(Vec::new(rt.alloc()));
+    let mut host = RealHost::new(&rt);
+    let mut clock = SteadyClock::new(&rt);
     let status = match words(&rt) {
         Ok(words) => run(
             rt.alloc(),

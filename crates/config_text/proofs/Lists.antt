@@ -13,6 +13,7 @@ values_counted (v ∷ vs) = ap suc (values_counted vs)
 abbrev pub onto : {A : Type 0} → List A → Result (List A) Fault → Result (List A) Fault
 onto front read = read >>= λ xs. Ok (front ++ xs)
 
-more : {A : Type 0} (front : List A) (x : A) (rest : Result (List A) Fault) → onto front (rest >>= λ xs. Ok (x ∷ xs)) ≡ onto (front ++ x ∷ []) rest
+more : {A : Type 0} (front : List A) (x : A) (rest : Result (List A) Fault)
+    → onto front (rest >>= λ xs. Ok (x ∷ xs)) ≡ onto (front ++ x ∷ []) rest
 more front x (Ok xs) = ap Ok (sym (append_assoc front (x ∷ []) xs))
 more front x (Err e) = refl

@@ -11,7 +11,8 @@ use Rattle.config_text.specs.declared.vips.Endpoint.{Endpoint}
 use Rattle.config_text.specs.declared.vips.Member.{Member}
 use Rattle.config_text.specs.declared.vips.VipText.{VipText}
 use Rattle.config_text.specs.Faults.{Fault, json, ◌>>=◌}
-use Rattle.config_text.specs.Members.{At, address_in, child, list_at, member_at, nothing_but, number_in, object, port_in, proto_in, single, socket_in, whole_in}
+use Rattle.config_text.specs.Members.{At, address_in, child, list_at, member_at, nothing_but, number_in, object}
+use Rattle.config_text.specs.Members.{port_in, proto_in, single, socket_in, whole_in}
 
 unfoldable pub attach_of : At → Result Attach Fault
 attach_of o = do
@@ -57,6 +58,9 @@ vip_of o = do
   others ← nothing_but (codes "address" ∷ codes "low" ∷ codes "high" ∷ codes "snat" ∷ codes "endpoints" ∷ []) o
   Ok (record { address = address; low = low; high = high; snat = snat; endpoints = endpoints })
 
+abbrev pub timer_keys : List (List ℕ)
+timer_keys = codes "lead_silent" ∷ codes "mux_silent" ∷ codes "ask_retry" ∷ codes "flow_idle" ∷ codes "range_idle" ∷ []
+
 unfoldable pub timers_of : At → Result Timers Fault
 timers_of o = do
   is_object ← object o
@@ -65,11 +69,22 @@ timers_of o = do
   ask_retry ← member_at (number_in 1 86400000) o (codes "ask_retry")
   flow_idle ← member_at (number_in 1 86400000) o (codes "flow_idle")
   range_idle ← member_at (number_in 1 86400000) o (codes "range_idle")
-  others ← nothing_but (codes "lead_silent" ∷ codes "mux_silent" ∷ codes "ask_retry" ∷ codes "flow_idle" ∷ codes "range_idle" ∷ []) o
-  Ok (record { lead_silent = lead_silent; mux_silent = mux_silent; ask_retry = ask_retry; flow_idle = flow_idle; range_idle = range_idle })
+  others ← nothing_but timer_keys o
+  Ok (record {
+    lead_silent = lead_silent;
+    mux_silent = mux_silent;
+    ask_retry = ask_retry;
+    flow_idle = flow_idle;
+    range_idle = range_idle;
+  })
 
 abbrev pub timers_at : At → List ℕ → Result Timers Fault
 timers_at o key = child o key >>= timers_of
+
+abbrev pub whole_keys : List (List ℕ)
+whole_keys =
+    codes "version" ∷ codes "router" ∷ codes "replicas" ∷ codes "muxes" ∷ codes "agents" ∷ codes "vips"
+    ∷ codes "limit" ∷ codes "timers" ∷ []
 
 -- the whole text: where it is no object, `version` is missing
 unfoldable pub whole_of : At → Result Settings Fault
@@ -82,10 +97,19 @@ whole_of o = do
   vips ← list_at vip_of 1 64 o (codes "vips")
   limit ← member_at (number_in 1 1024) o (codes "limit")
   timers ← timers_at o (codes "timers")
-  others ← nothing_but (codes "version" ∷ codes "router" ∷ codes "replicas" ∷ codes "muxes" ∷ codes "agents" ∷ codes "vips" ∷ codes "limit" ∷ codes "timers" ∷ []) o
-  Ok (record { version = version; router = router; replicas = replicas; muxes = muxes; agents = agents; vips = vips; limit = limit; timers = timers })
+  others ← nothing_but whole_keys o
+  Ok (record {
+    version = version;
+    router = router;
+    replicas = replicas;
+    muxes = muxes;
+    agents = agents;
+    vips = vips;
+    limit = limit;
+    timers = timers;
+  })
 
--- the JSON value (RFC 8259) that the bytes are
+-- the JSON value that the bytes are, as `serde_json` reads it
 abbrev pub json_of : List ℕ → Option Data
 json_of bytes = if is_utf8 bytes then json_text.read bytes else None
 

@@ -2,3 +2,4 @@ pub mod Faults
 pub mod Members
 pub mod Form
 pub mod Sizes
+pub mod Bounds

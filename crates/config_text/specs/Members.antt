@@ -1,5 +1,6 @@
 -- The members of an object and of a list, each with its path.
-use Rattle.std.specs.Prelude.{ℕ, suc, Bool, not, ◌&&◌, nat_le, List, [], ◌∷◌, ◌++◌, Option, Some, None, option_and_then, Result, Ok, Err, if◌then◌else◌, codes}
+use Rattle.std.specs.Prelude.{ℕ, suc, Bool, not, ◌&&◌, nat_le, List, [], ◌∷◌, ◌++◌, Option, Some, None, option_and_then}
+use Rattle.std.specs.Prelude.{Result, Ok, Err, if◌then◌else◌, codes}
 use Rattle.std.specs.Fmt.{decimal}
 use Rattle.std.specs.Cmp.Lexicographic.{slice_cmp}
 use Rattle.std.specs.List.{filter, list_any}
@@ -115,7 +116,8 @@ object p = given (own_path p.path) (option_map (λ members. tt) (as_object p.val
 
 -- the value at a key
 abbrev pub child : At → List ℕ → Result At Fault
-child o key = given (key_path o.path key) (get key o.value) >>= λ d. Ok (record { path = Some (key_path o.path key); value = d })
+child o key = given (key_path o.path key) (get key o.value)
+    >>= λ d. Ok (record { path = Some (key_path o.path key); value = d })
 
 -- ---- lists
 
@@ -123,7 +125,8 @@ child o key = given (key_path o.path key) (get key o.value) >>= λ d. Ok (record
 abbrev pub each : {A : Type 0} → (At → Result A Fault) → List ℕ → ℕ → Items → Result (List A) Fault
 each read path index no_items = Ok []
 each read path index (item d ds) =
-    read (record { path = Some (item_path path index); value = d }) >>= λ x. each read path (suc index) ds >>= λ xs. Ok (x ∷ xs)
+    read (record { path = Some (item_path path index); value = d })
+    >>= λ x. each read path (suc index) ds >>= λ xs. Ok (x ∷ xs)
 
 abbrev pub is_of_length : ℕ → ℕ → Items → Bool
 is_of_length low high ds = nat_le low (items_len ds) && nat_le (items_len ds) high

@@ -6,7 +6,7 @@ use std::alloc::{AllocError, AllocFailed};
 /// Why a configuration wasn't read.
 #[derive(Debug, Drop)]
 pub enum ConfigFault {
-    /// The bytes are no JSON (RFC 8259).
+    /// The bytes are no JSON, as `serde_json` reads it.
     Json,
     /// The path of the first fault, such as `agents[0].machines[1].address`.
     Field(String),

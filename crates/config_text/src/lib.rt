@@ -1,4 +1,4 @@
-//! A configuration as it is written: its JSON (RFC 8259), read member by member, with the first fault and its path.
+//! A configuration as it is written: its JSON, read member by member, with the first fault and its path.
 //!
 //! | module | what a reader finds |
 //! |---|---|
@@ -10,9 +10,10 @@
 //! | `values` | numbers, addresses, sockets and protocols |
 //! | `place` | a value and its path, such as `agents[0].machines[1].address` |
 //!
-//! What is read is exactly what the table of keys in `specs/Form.antt` says: each object's keys in their order, depth first, a
-//! list's length before its members, then the least key that the object may not have. That the values fit one another, as that
-//! no two sockets are equal, is left to the caller.
+//! What is JSON is what `serde_json` reads: UTF-8, 127 levels, no lone surrogate, numbers within a double. What is read
+//! of it is exactly what the table of keys in `specs/Form.antt` says: each object's keys in their order, depth first, a
+//! list's length before its members, then the least key that the object may not have. That the values fit one another,
+//! as that no two sockets are equal, is left to the caller.
 #![tactic(auto)]
 
 mod agents;

@@ -2,7 +2,8 @@ ghost use Rattle.std.specs.Prelude.{◌≡◌, Result, option_and_then, option_m
 ghost use Rattle.serde_json.specs.Find.{get};
 ghost use Rattle.serde_json.specs.View.{items_view, view};
 ghost use Rattle.config_text.specs.Faults.{Fault, Gives};
-ghost use Rattle.config_text.specs.Members.{At, address_in, at, each, is_of_length, list_at, list_of_length, single, socket_in};
+ghost use Rattle.config_text.specs.Members.{At, address_in, at, each, is_of_length, list_at, list_of_length, single};
+ghost use Rattle.config_text.specs.Members.{socket_in};
 
 use crate::fault::ConfigFault;
 use crate::place::{Path, Place};
@@ -78,7 +79,8 @@ fn values_of<'a>(value: &'a Value, low: usize, high: usize) -> Option<&'a Vec<Va
 
 /// The list at a key, if it has from `low` to `high` members.
 fn values_in<'a>(value: &'a Value, key: &str, low: usize, high: usize) -> Option<&'a Vec<Value>>
-    ensures { option_map (λ vs. items_view vs.now.items) result ≡ option_and_then (list_of_length low high) (get key.now (view value.now)) }
+    ensures { option_map (λ vs. items_view vs.now.items) result
+        ≡ option_and_then (list_of_length low high) (get key.now (view value.now)) }
 {
     values_of(value.get(key)?, low, high)
 }

@@ -6,7 +6,8 @@ ghost use Rattle.std.specs.Option.{option_copied};
 ghost use Rattle.std.specs.Str.{bytes_eq};
 ghost use Rattle.serde_json.specs.View.{view};
 ghost use Rattle.config_text.specs.Faults.{Gives};
-ghost use Rattle.config_text.specs.Members.{address_in, at, member_at, nothing_but, number_in, object, port_in, proto_in, socket_in, unlisted, whole_in};
+ghost use Rattle.config_text.specs.Members.{address_in, at, member_at, nothing_but, number_in, object, port_in};
+ghost use Rattle.config_text.specs.Members.{proto_in, socket_in, unlisted, whole_in};
 
 use crate::fault::ConfigFault;
 use crate::place::Place;
@@ -23,7 +24,8 @@ fn is_among(listed: &[&str], key: &str) -> bool
 
 /// The first key that isn't one of these, in byte order.
 fn first_unlisted<'a>(members: &'a Map<String, Value>, listed: &[&str]) -> Option<&'a String>
-    ensures found { option_copied result ≡ find (λ key. not (list_any (λ other. bytes_eq (string_bytes key) other.now) listed.now)) (keys members.now) }
+    ensures found { option_copied result
+        ≡ find (λ key. not (list_any (λ other. bytes_eq (string_bytes key) other.now) listed.now)) (keys members.now) }
     ensures ordered { IsStrictlySortedBy string_cmp (keys members.now) }
 {
     members.keys().find(|key| !is_among(listed, key.as_str()))
@@ -31,7 +33,8 @@ fn first_unlisted<'a>(members: &'a Map<String, Value>, listed: &[&str]) -> Optio
 
 /// The first key of an object that isn't one of these, in byte order.
 fn unlisted<'a>(value: &'a Value, listed: &[&str]) -> Option<&'a String>
-    ensures { option_map (λ key. string_bytes key.now) result ≡ unlisted (map (λ k. k.now) listed.now) (view value.now) }
+    ensures { option_map (λ key. string_bytes key.now) result
+        ≡ unlisted (map (λ k. k.now) listed.now) (view value.now) }
 {
     first_unlisted(value.as_object()?, listed)
 }

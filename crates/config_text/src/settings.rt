@@ -1,5 +1,6 @@
 ghost use Rattle.std.specs.Prelude.{IfOk, Some};
 ghost use Rattle.serde_json.specs.View.{view};
+ghost use Rattle.config_text.specs.Bounds.{IsBounded};
 ghost use Rattle.config_text.specs.Faults.{Gives, GivesSeen};
 ghost use Rattle.config_text.specs.Form.{json_of, or_json, settings_of, timers_at, timers_of, whole_of};
 ghost use Rattle.config_text.specs.Members.{at};
@@ -147,13 +148,14 @@ fn read_text(alloc: Global, bytes: &[u8]) -> Result<Settings, ConfigFault>
 }
 
 impl Settings {
-    /// Reads a configuration. `Json` comes exactly where the bytes are no JSON, and `Field` exactly at the first fault: the
-    /// keys of each object in their order, depth first, a list's length before its members, and then the least key in byte
-    /// order that the object may not have. The cost is linear in the text.
-    #[tactic(auto, using(crate::proofs::Sized::sized_if_read))]
+    /// Reads a configuration. `Json` comes exactly where the bytes are no JSON, and `Field` exactly at the first fault:
+    /// the keys of each object in their order, depth first, a list's length before its members, and then the least key
+    /// in byte order that the object may not have. What is read has lists of their lengths, and version, ports, limit
+    /// and timers within their bounds. The cost is linear in the text.
     pub fn read(alloc: Global, bytes: &[u8]) -> Result<Settings, ConfigFault>
         ensures exact { Gives result (settings_of bytes.now) }
         ensures sized { IfOk result IsSized }
+        ensures bounded { IfOk result IsBounded }
     {
         read_text(alloc, bytes)
     }

@@ -1,5 +1,6 @@
 -- What is spelled is read again.
-use Rattle.std.proofs.Common.{◌≡◌, ◌∙◌, ℕ, ◌≤◌, ◌<◌, ◌^◌, ◌%◌, Bool, true, false, ltb, ◌==◌, List, [], ◌∷◌, ◌++◌, length, Option, Some, None, Ok, refl, sym, ap, append_assoc, append-nil, arith}
+use Rattle.std.proofs.Common.{◌≡◌, ◌∙◌, ℕ, ◌≤◌, ◌<◌, ◌^◌, ◌%◌, Bool, true, false, ltb, ◌==◌, List, [], ◌∷◌, ◌++◌}
+use Rattle.std.proofs.Common.{length, Option, Some, None, Ok, refl, sym, ap, append_assoc, append-nil, arith}
 use Rattle.std.proofs.lemmas.Bool.{le-ltb}
 use Rattle.std.proofs.lemmas.Bool.Decides.{nat_tests}
 use Rattle.wire_core.specs.declared.address.Ip4.{Ip4}
@@ -9,9 +10,16 @@ use Rattle.wire_core.proofs.AgainLaws.{field_again, byte_again, value_again}
 use Rattle.control_msg.specs.declared.kind.Kind.{Kind}
 use Rattle.control_msg.specs.declared.kind.Kind.TheVariants as kind
 use Rattle.control_msg.specs.declared.message.Message.{Message}
-use Rattle.control_msg.specs.declared.message.Message.TheVariants.{Prepare, Promise, Accept, Accepted, Refuse, Chosen, Fetch, Ask, Grant, Denied, Return, Returned, AgentUp, AgentKnown, MuxHello, Program, Programmed, Unprogram, Unprogrammed, MuxRefuse, Lead, RedirectAsk, Redirect}
-use Rattle.control_msg.specs.Messages.{number, address, port, byte, optional_value, message_bytes, IsNumber, IsAddress, IsStart, IsReason, IsSide, IsVote, IsMessage}
-use Rattle.control_msg.specs.Reading.{address_at, tested_at, is_start, is_reason, is_side, start_at, reason_at, side_at, vote_value_at, number_at, two_numbers_at, three_numbers_at, valued_at, promise_at, ask_at, grant_at, denied_at, program_at, unprogram_at, redirect_ask_at, redirect_at, kind_of, fields_at, message_at}
+use Rattle.control_msg.specs.declared.message.Message.TheVariants.{Prepare, Promise, Accept, Accepted, Refuse, Chosen}
+use Rattle.control_msg.specs.declared.message.Message.TheVariants.{Fetch, Ask, Grant, Denied, Return, Returned, AgentUp}
+use Rattle.control_msg.specs.declared.message.Message.TheVariants.{AgentKnown, MuxHello, Program, Programmed, Unprogram}
+use Rattle.control_msg.specs.declared.message.Message.TheVariants.{Unprogrammed, MuxRefuse, Lead, RedirectAsk, Redirect}
+use Rattle.control_msg.specs.Messages.{number, address, port, byte, optional_value, message_bytes, IsNumber, IsAddress}
+use Rattle.control_msg.specs.Messages.{IsStart, IsReason, IsSide, IsVote, IsMessage}
+use Rattle.control_msg.specs.Reading.{address_at, tested_at, is_start, is_reason, is_side, start_at, reason_at, side_at}
+use Rattle.control_msg.specs.Reading.{vote_value_at, number_at, two_numbers_at, three_numbers_at, valued_at, promise_at}
+use Rattle.control_msg.specs.Reading.{ask_at, grant_at, denied_at, program_at, unprogram_at, redirect_ask_at}
+use Rattle.control_msg.specs.Reading.{redirect_at, kind_of, fields_at, message_at}
 
 -- ---- fields
 

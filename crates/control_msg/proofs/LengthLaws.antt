@@ -4,7 +4,8 @@ use Rattle.std.proofs.lemmas.List.{length-append}
 use Rattle.wire_core.specs.declared.address.Ip4.{Ip4}
 use Rattle.wire_core.specs.Commands.{LogCommand, value_bytes}
 use Rattle.wire_core.proofs.NumberLaws.{length-number_bytes}
-use Rattle.control_msg.specs.declared.message.Message.TheVariants.{Promise, Ask, Grant, Denied, Program, Unprogram, RedirectAsk, Redirect}
+use Rattle.control_msg.specs.declared.message.Message.TheVariants.{Promise, Ask, Grant, Denied, Program, Unprogram}
+use Rattle.control_msg.specs.declared.message.Message.TheVariants.{RedirectAsk, Redirect}
 use Rattle.control_msg.specs.Messages.{number, optional_value, spelled, message_bytes}
 
 pub number_is_long : (kind a : ℕ) → length (spelled kind (number a)) ≡ 10

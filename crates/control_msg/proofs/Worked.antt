@@ -5,7 +5,10 @@ use Rattle.std.proofs.Common.{refl}
 use Rattle.wire_core.specs.declared.address.Ip4.{Ip4}
 use Rattle.wire_core.specs.Numbers.{number_bytes}
 use Rattle.wire_core.specs.Commands.{LogCommand, Release}
-use Rattle.control_msg.specs.declared.message.Message.TheVariants.{Prepare, Promise, Accept, Accepted, Refuse, Chosen, Fetch, Ask, Grant, Denied, Return, Returned, AgentUp, AgentKnown, MuxHello, Program, Programmed, Unprogram, Unprogrammed, MuxRefuse, Lead, RedirectAsk, Redirect}
+use Rattle.control_msg.specs.declared.message.Message.TheVariants.{Prepare, Promise, Accept, Accepted, Refuse, Chosen}
+use Rattle.control_msg.specs.declared.message.Message.TheVariants.{Fetch, Ask, Grant, Denied, Return, Returned, AgentUp}
+use Rattle.control_msg.specs.declared.message.Message.TheVariants.{AgentKnown, MuxHello, Program, Programmed, Unprogram}
+use Rattle.control_msg.specs.declared.message.Message.TheVariants.{Unprogrammed, MuxRefuse, Lead, RedirectAsk, Redirect}
 use Rattle.control_msg.specs.Messages.{message_bytes}
 
 -- the value of a hexadecimal digit

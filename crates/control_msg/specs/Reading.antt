@@ -1,5 +1,6 @@
 -- Reading a message from left to right, with the first fault that is met.
-use Rattle.std.specs.Prelude.{ℕ, ◌-◌, ◌%◌, Bool, not, ◌&&◌, List, length, drop, slice_index, Result, Ok, Err, Option, Some, None, nat_lt, nat_le, ◌==◌, if◌then◌else◌}
+use Rattle.std.specs.Prelude.{ℕ, ◌-◌, ◌%◌, Bool, not, ◌&&◌, List, length, drop, slice_index, Result, Ok, Err, Option}
+use Rattle.std.specs.Prelude.{Some, None, nat_lt, nat_le, ◌==◌, if◌then◌else◌}
 use Rattle.wire_core.specs.declared.address.Ip4.{Ip4}
 use Rattle.wire_core.specs.declared.reading.FieldFault.{FieldFault}
 use Rattle.wire_core.specs.declared.reading.FieldFault.TheVariants as field_fault
@@ -8,7 +9,10 @@ use Rattle.wire_core.specs.Reading.{Read, ◌>>=◌, field, value_at}
 use Rattle.control_msg.specs.declared.kind.Kind.{Kind}
 use Rattle.control_msg.specs.declared.kind.Kind.TheVariants as kind
 use Rattle.control_msg.specs.declared.message.Message.{Message}
-use Rattle.control_msg.specs.declared.message.Message.TheVariants.{Prepare, Promise, Accept, Accepted, Refuse, Chosen, Fetch, Ask, Grant, Denied, Return, Returned, AgentUp, AgentKnown, MuxHello, Program, Programmed, Unprogram, Unprogrammed, MuxRefuse, Lead, RedirectAsk, Redirect}
+use Rattle.control_msg.specs.declared.message.Message.TheVariants.{Prepare, Promise, Accept, Accepted, Refuse, Chosen}
+use Rattle.control_msg.specs.declared.message.Message.TheVariants.{Fetch, Ask, Grant, Denied, Return, Returned, AgentUp}
+use Rattle.control_msg.specs.declared.message.Message.TheVariants.{AgentKnown, MuxHello, Program, Programmed, Unprogram}
+use Rattle.control_msg.specs.declared.message.Message.TheVariants.{Unprogrammed, MuxRefuse, Lead, RedirectAsk, Redirect}
 use Rattle.control_msg.specs.declared.reading.MessageFault.{MessageFault}
 use Rattle.control_msg.specs.declared.reading.MessageFault.TheVariants as fault
 

@@ -231,3 +231,9 @@ still_moments bound (Some t) new still (inr m) =
 pub journal_length_some : (bs : List (List ℕ)) → 1 ≤ journal_length bs
 journal_length_some [] = omega arith
 journal_length_some (b ∷ bs) = omega (arith, journal_length_some bs)
+
+pub stands_still : (bound end : ℕ) (told : Option History) → Stands bound end told
+    → LeavesOnly told told (IsAsBefore bound (file_in told))
+stands_still bound end None stands = tt
+stands_still bound end (Some t) stands =
+    stays (Some t) (IsAsBefore bound t.now.bytes) stands.0 (λ u is. ap (bodies bound) (ap file_in (sym is)))

@@ -142,9 +142,13 @@ impl<D: Disk> Journal<D> {
         }
     }
 
-    /// Whether the journal may be appended to: false exactly after a call that answered `Disk`.
+    /// Whether the journal may be appended to: false exactly after a call that answered `Disk`. The file of a live
+    /// journal is on the disk, so that each crash now leaves its bodies.
     pub fn is_live(&self) -> bool
-        ensures { result ≡ self.now.live }
+        ensures live { result ≡ self.now.live }
+        ensures stands { self.now.live ≡ true
+            → LeavesOnly (D.history self.now.first) (D.history self.now.first)
+            (IsAsBefore self.now.bound (file_in (D.history self.now.first))) }
     {
         self.live
     }

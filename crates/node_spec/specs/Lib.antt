@@ -4,3 +4,4 @@ pub mod Steps
 pub mod Datagrams
 pub mod Fastpath
 pub mod Boots
+pub mod Bodies

@@ -16,7 +16,7 @@ use Rattle.vip_config.proofs.Members.{once_join}
 -- ---- claims that are clean break no rule
 
 module _ {K : Type 0} (same : K → K → Bool) (is_same : (a b : K) → same a b ≡ true → a ≡ b) where
-  any_member : (k : K) (xs : List K) → list_any (same k) xs ≡ true → In k xs
+  pub any_member : (k : K) (xs : List K) → list_any (same k) xs ≡ true → In k xs
   any_member k [] h = absurd (true≢false (sym h))
   any_member k (x ∷ xs) h = by (same k x) refl (any_member k xs)
     where
@@ -136,7 +136,8 @@ pub flat_keys : {K V Z : Type 0} (g : K → List Z) (cs : List (Claim K V))
 flat_keys g [] = refl
 flat_keys g (c ∷ cs) = ap (λ l. g c.key ++ l) (flat_keys g cs)
 
-pub in_flat : {X Y : Type 0} (g : X → List Y) (xs : List X) (x : X) (y : Y) → In x xs → In y (g x) → In y (flat_map g xs)
+pub in_flat : {X Y : Type 0} (g : X → List Y) (xs : List X) (x : X) (y : Y) → In x xs → In y (g x)
+    → In y (flat_map g xs)
 in_flat g [] x y i j = absurd i
 in_flat g (z ∷ xs) x y i j =
     elim i [

@@ -5,4 +5,6 @@ pub mod Clean
 pub mod Unbroken
 pub mod Given
 pub mod Loops
+pub mod Named
 pub mod Owners
+pub mod Lookups

@@ -27,10 +27,12 @@ in_right (z ∷ zs) ys x i = inr (in_right zs ys x i)
 
 pub in_cases : {X : Type 0} (xs ys : List X) (x : X) → In x (xs ++ ys) → In x xs ⊎ In x ys
 in_cases [] ys x i = inr i
-in_cases (z ∷ zs) ys x i = elim i [ inl e ↦ inl (inl e) | inr j ↦ elim (in_cases zs ys x j) [ inl k ↦ inl (inr k) | inr k ↦ inr k ] ]
+in_cases (z ∷ zs) ys x i =
+    elim i [ inl e ↦ inl (inl e) | inr j ↦ elim (in_cases zs ys x j) [ inl k ↦ inl (inr k) | inr k ↦ inr k ] ]
 
 -- a member of a list passes the test of being among them
-pub in_any : {K : Type 0} (same : K → K → Bool) → ((k : K) → same k k ≡ true) → (k : K) (ks : List K) → In k ks → list_any (same k) ks ≡ true
+pub in_any : {K : Type 0} (same : K → K → Bool) → ((k : K) → same k k ≡ true) → (k : K) (ks : List K) → In k ks
+    → list_any (same k) ks ≡ true
 in_any same own k [] h = absurd h
 in_any same own k (x ∷ xs) h =
     elim h [
@@ -53,5 +55,7 @@ once_apart (z ∷ xs) ys x h i j =
 
 pub once_join : {X : Type 0} (xs ys : List X) → Once xs → Once ys → ((x : X) → In x xs → In x ys → ⊥) → Once (xs ++ ys)
 once_join [] ys h k apart = k
-once_join (x ∷ xs) ys h k apart =
-    (λ i. elim (in_cases xs ys x i) [ inl j ↦ h.0 j | inr j ↦ apart x (inl refl) j ], once_join xs ys h.1 k (λ y i j. apart y (inr i) j))
+once_join (x ∷ xs) ys h k apart = (
+  λ i. elim (in_cases xs ys x i) [ inl j ↦ h.0 j | inr j ↦ apart x (inl refl) j ],
+  once_join xs ys h.1 k (λ y i j. apart y (inr i) j),
+)

@@ -46,7 +46,7 @@ both false b h = absurd (true≢false (sym h))
 same_addresses : (a b : Ip4) → same_address a b ≡ true → a ≡ b
 same_addresses a b h = let n = eqb-true a.0 b.0 h in λ t. record { 0 = n t }
 
-same_sockets : (a b : Socket) → same_socket a b ≡ true → a ≡ b
+pub same_sockets : (a b : Socket) → same_socket a b ≡ true → a ≡ b
 same_sockets a b h =
     let parts = both (a.ip.0 == b.ip.0) (a.port == b.port) h in
     let ip = same_addresses a.ip b.ip parts.0 in

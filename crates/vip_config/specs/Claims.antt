@@ -1,5 +1,6 @@
 -- Members that claim keys, each of which may be claimed once.
-use Rattle.std.specs.Prelude.{◌≡◌, ℕ, suc, Bool, not, ◌||◌, List, [], ◌∷◌, ◌++◌, map, fold, Option, Some, None, is_some, if◌then◌else◌, Result, Ok, Err}
+use Rattle.std.specs.Prelude.{◌≡◌, ℕ, suc, Bool, not, ◌||◌, List, [], ◌∷◌, ◌++◌, map, fold, Option, Some, None, is_some}
+use Rattle.std.specs.Prelude.{if◌then◌else◌, Result, Ok, Err}
 use Rattle.std.specs.Map.{lookup}
 use Rattle.std.specs.List.{list_any}
 use Rattle.indexmap.specs.IndexMap.{IndexMap}
@@ -20,7 +21,8 @@ claim place key owner fits = record { place = place; key = key; owner = owner; f
 -- The first member that doesn't fit, or whose key one before it claims.
 abbrev pub first_broken : {K V : Type 0} → (K → K → Bool) → List K → List (Claim K V) → Option Place
 first_broken same before [] = None
-first_broken same before (c ∷ cs) = if not c.fits || list_any (same c.key) before then Some c.place else first_broken same (before ++ c.key ∷ []) cs
+first_broken same before (c ∷ cs) =
+    if not c.fits || list_any (same c.key) before then Some c.place else first_broken same (before ++ c.key ∷ []) cs
 
 -- what each member of a list claims, by its number
 abbrev pub claims_of : {A B : Type 0} → (ℕ → A → List B) → ℕ → List A → List B
@@ -59,7 +61,8 @@ Tells broken (Ok x) = broken ≡ None
 Tells broken (Err (At place)) = broken ≡ Some place
 Tells broken (Err NoMemory) = Unit {0}
 
--- No key is claimed twice and each member fits, and the map has each key's owner; or the first member for which it isn't so.
+-- No key is claimed twice and each member fits, and the map has each key's owner; or the first member for which it
+-- isn't so.
 abbrev pub Indexes : {K V S : Type 0} → (K → K → Bool) → List (Claim K V) → Result (IndexMap K V S) Broken → Type 0
 Indexes same cs (Ok m) = (first_broken same [] cs ≡ None) × (m.entries ≡ owners_of cs)
 Indexes same cs (Err (At place)) = first_broken same [] cs ≡ Some place

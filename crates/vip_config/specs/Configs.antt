@@ -42,17 +42,29 @@ abbrev pub wrong_endpoint : List (Ip4 × ℕ) → List VipText → Option Place
 wrong_endpoint machines vips = first_broken same_endpoint_key [] (claims_of (vip_endpoint_claims machines) 0 vips)
 
 abbrev pub broken_vip_rule : List (Ip4 × ℕ) → List VipText → Option Place
-broken_vip_rule machines vips = option_or (shared_vip machines vips) (option_or (wrong_port vips) (option_or (wrong_snat machines vips) (wrong_endpoint machines vips)))
+broken_vip_rule machines vips =
+    option_or (shared_vip machines vips)
+    (option_or (wrong_port vips) (option_or (wrong_snat machines vips) (wrong_endpoint machines vips)))
 
 -- the first member, by the rules in their order, that breaks one
 abbrev pub broken_rule : Settings → Option Place
-broken_rule s = option_or (shared_socket s) (option_or (shared_machine s) (broken_vip_rule (machines_of s.agents) s.vips))
+broken_rule s =
+    option_or (shared_socket s) (option_or (shared_machine s) (broken_vip_rule (machines_of s.agents) s.vips))
 
 abbrev pub vip_conf_of : VipText → VipConf
 vip_conf_of v = record { address = v.address; low = v.low; high = v.high; snat = v.snat; endpoints = v.endpoints }
 
 abbrev pub parts_of : Settings → ConfigParts
-parts_of s = record { version = s.version; router = s.router; replicas = s.replicas; muxes = s.muxes; agents = s.agents; vips = map vip_conf_of s.vips; limit = s.limit; timers = s.timers }
+parts_of s = record {
+  version = s.version;
+  router = s.router;
+  replicas = s.replicas;
+  muxes = s.muxes;
+  agents = s.agents;
+  vips = map vip_conf_of s.vips;
+  limit = s.limit;
+  timers = s.timers;
+}
 
 abbrev pub unless_broken : Option Place → ConfigParts → Result ConfigParts Fault
 unless_broken None parts = Ok parts

@@ -10,7 +10,8 @@ use Rattle.vip_config.specs.Claims.{Claim, claim, claims_of}
 use Rattle.vip_config.specs.Machines.{is_machine}
 use Rattle.vip_config.specs.declared.endpoints.EndpointKey.{EndpointKey}
 use Rattle.vip_config.specs.declared.endpoints.EndpointKey.TheVariants.{Port, MachinePort, Machine}
-use Rattle.vip_config.specs.declared.place.Place.TheVariants.{Endpoint as endpoint_at, Member as member_at, MemberAddress}
+use Rattle.vip_config.specs.declared.place.Place.TheVariants.{Endpoint as endpoint_at, Member as member_at}
+use Rattle.vip_config.specs.declared.place.Place.TheVariants.{MemberAddress}
 
 abbrev pub same_proto : Proto → Proto → Bool
 same_proto Tcp Tcp = true
@@ -38,7 +39,8 @@ member_claims machines i j proto k member =
 
 abbrev pub endpoint_claims : List (Ip4 × ℕ) → ℕ → ℕ → Endpoint → List (Claim EndpointKey (Unit {0}))
 endpoint_claims machines i j endpoint =
-    claim (endpoint_at i j) (Port i endpoint.proto endpoint.port) tt true ∷ claims_of (member_claims machines i j endpoint.proto) 0 endpoint.machines
+    claim (endpoint_at i j) (Port i endpoint.proto endpoint.port) tt true
+    ∷ claims_of (member_claims machines i j endpoint.proto) 0 endpoint.machines
 
 abbrev pub vip_endpoint_claims : List (Ip4 × ℕ) → ℕ → VipText → List (Claim EndpointKey (Unit {0}))
 vip_endpoint_claims machines i vip = claims_of (endpoint_claims machines i) 0 vip.endpoints

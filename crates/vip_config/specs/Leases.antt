@@ -19,7 +19,8 @@ vip_rule vip = record { vip = vip.address; low = vip.low; high = vip.high; taken
 
 -- a machine with the number of its agent, which each address of a `snat` has
 abbrev pub machine_rule : List (Ip4 × ℕ) → Ip4 → Ip4 → MachineRule
-machine_rule machines vip machine = record { machine = machine; agent = unwrap_or (agent_of machines machine) 0; vip = vip }
+machine_rule machines vip machine =
+    record { machine = machine; agent = unwrap_or (agent_of machines machine) 0; vip = vip }
 
 abbrev pub machine_rules : List (Ip4 × ℕ) → VipConf → List MachineRule
 machine_rules machines vip = map (machine_rule machines vip.address) vip.snat
@@ -28,7 +29,8 @@ abbrev pub all_machine_rules : List (Ip4 × ℕ) → List VipConf → List Machi
 all_machine_rules machines vips = flat_map (machine_rules machines) vips
 
 abbrev pub rules_of : List (Ip4 × ℕ) → ConfigParts → LeaseRules
-rules_of machines c = record { vips = map vip_rule c.vips; machines = all_machine_rules machines c.vips; limit = c.limit }
+rules_of machines c =
+    record { vips = map vip_rule c.vips; machines = all_machine_rules machines c.vips; limit = c.limit }
 
 abbrev pub lease_rules_of : ConfigParts → LeaseRules
 lease_rules_of c = rules_of (machines_of c.agents) c

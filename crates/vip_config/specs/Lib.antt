@@ -6,6 +6,7 @@ pub mod Vips
 pub mod Snat
 pub mod Endpoints
 pub mod Configs
+pub mod Ways
 pub mod Rules
 pub mod Queries
 pub mod Leases

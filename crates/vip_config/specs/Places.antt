@@ -2,7 +2,9 @@
 use Rattle.std.specs.Prelude.{ℕ, List, ◌++◌, codes}
 use Rattle.std.specs.Fmt.{decimal}
 use Rattle.vip_config.specs.declared.place.Place.{Place}
-use Rattle.vip_config.specs.declared.place.Place.TheVariants.{Router, Replica, Mux, AgentSocket, MachineAddress, MachineAttach, VipAddress, Low, High, Snat, Endpoint, Member, MemberAddress}
+use Rattle.vip_config.specs.declared.place.Place.TheVariants.{Router, Replica, Mux, AgentSocket, MachineAddress}
+use Rattle.vip_config.specs.declared.place.Place.TheVariants.{MachineAttach, VipAddress, Low, High, Snat, Endpoint}
+use Rattle.vip_config.specs.declared.place.Place.TheVariants.{Member, MemberAddress}
 
 unfoldable pub vip_path : ℕ → List ℕ
 vip_path i = codes "vips[" ++ decimal i ++ codes "]"

@@ -7,10 +7,12 @@ use Rattle.wire_core.specs.declared.flow.Proto.{Proto}
 use Rattle.wire_core.specs.Members.{In, Each}
 use Rattle.config_text.specs.declared.agents.AgentConf.{AgentConf}
 use Rattle.config_text.specs.declared.vips.Endpoint.{Endpoint}
+use Rattle.config_text.specs.Bounds.{HasAgentPorts, HasEndpointPorts, HasPort, HasSpans, IsFrom}
 use Rattle.config_text.specs.Sizes.{HasLength}
 use Rattle.vip_config.specs.Claims.{owners_of}
 use Rattle.vip_config.specs.Machines.{machines_of}
 use Rattle.vip_config.specs.Sockets.{socket_claims}
+use Rattle.vip_config.specs.Ways.{FindsAs, all_attaches, all_leaves}
 use Rattle.vip_config.specs.declared.parts.ConfigParts.{ConfigParts}
 use Rattle.vip_config.specs.declared.parts.VipConf.{VipConf}
 use Rattle.vip_config.specs.declared.who.Who.{Who}
@@ -48,6 +50,10 @@ machine_ports endpoint = map (λ member. (endpoint.proto, member.address, member
 abbrev pub all_machine_ports : ConfigParts → List (Proto × Ip4 × ℕ)
 all_machine_ports c = flat_map (λ vip. flat_map machine_ports vip.endpoints) c.vips
 
+-- each machine that serves the endpoint is one of these
+abbrev pub HasMachines : List Ip4 → Endpoint → Type 0
+HasMachines machines endpoint = Each (λ address. In address machines) (members_of endpoint)
+
 -- ports for leases are whole ranges of eight
 pub record HasRanges (vip : VipConf) : Type 0 where
   pub low : vip.low % 8 ≡ 0
@@ -67,7 +73,7 @@ pub record KeepsRules (c : ConfigParts) : Type 0 where
   pub snat_machines : Each (λ address. In address (all_machines c)) (all_snat c)
   pub ports : Each (λ vip. Once (map endpoint_port vip.endpoints)) c.vips
   pub members : Each (λ vip. Each (λ endpoint. Once (members_of endpoint)) vip.endpoints) c.vips
-  pub members_machines : Each (λ vip. Each (λ endpoint. Each (λ address. In address (all_machines c)) (members_of endpoint)) vip.endpoints) c.vips
+  pub members_machines : Each (λ vip. Each (HasMachines (all_machines c)) vip.endpoints) c.vips
   pub machine_ports : Once (all_machine_ports c)
 
 -- how long the lists are
@@ -81,9 +87,30 @@ pub record HasLengths (c : ConfigParts) : Type 0 where
   pub endpoints : Each (λ vip. HasLength 0 1024 vip.endpoints) c.vips
   pub members : Each (λ vip. Each (λ endpoint. HasLength 1 64 endpoint.machines) vip.endpoints) c.vips
 
--- The parts keep the rules, and the index has each socket's and each machine's owner.
-pub record IsConfig (c : ConfigParts) (sockets : List (Socket × Who)) (machines : List (Ip4 × ℕ)) : Type 0 where
+-- the version, and the bounds of ports, limit and timers
+pub record HasBounds (c : ConfigParts) : Type 0 where
+  pub version : c.version ≡ 1
+  pub router : HasPort c.router
+  pub replicas : Each HasPort c.replicas
+  pub muxes : Each HasPort c.muxes
+  pub agents : Each HasAgentPorts c.agents
+  pub endpoints : Each (λ vip. Each HasEndpointPorts vip.endpoints) c.vips
+  pub limit : IsFrom 1 1024 c.limit
+  pub timers : HasSpans c.timers
+
+-- what is looked up in a configuration by a hash: whose a socket is, a machine's agent, its socket and its VIP
+pub record Found : Type 0 where
+  pub sockets : List (Socket × Who)
+  pub machines : List (Ip4 × ℕ)
+  pub attached : List (Ip4 × Socket)
+  pub leaving : List (Ip4 × Ip4)
+
+-- The parts keep the rules, and what is looked up is what they say.
+pub record IsConfig (c : ConfigParts) (found : Found) : Type 0 where
   pub rules : KeepsRules c
   pub lengths : HasLengths c
-  pub of_sockets : sockets ≡ owners_of (socket_claims c.router c.replicas c.muxes c.agents)
-  pub of_machines : machines ≡ machines_of c.agents
+  pub bounds : HasBounds c
+  pub of_sockets : found.sockets ≡ owners_of (socket_claims c.router c.replicas c.muxes c.agents)
+  pub of_machines : found.machines ≡ machines_of c.agents
+  pub of_attached : FindsAs found.attached (all_attaches c.agents)
+  pub of_leaving : FindsAs found.leaving (all_leaves c.vips)

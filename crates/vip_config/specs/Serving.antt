@@ -5,11 +5,11 @@ use Rattle.std.specs.Map.{lookup}
 use Rattle.wire_core.specs.declared.address.Ip4.{Ip4}
 use Rattle.wire_core.specs.declared.address.Socket.{Socket}
 use Rattle.wire_core.specs.declared.flow.FlowKey.{FlowKey}
-use Rattle.config_text.specs.declared.agents.AgentConf.{AgentConf}
 use Rattle.config_text.specs.declared.vips.Endpoint.{Endpoint}
 use Rattle.config_text.specs.declared.vips.Member.{Member}
 use Rattle.vip_config.specs.Endpoints.{same_proto}
 use Rattle.vip_config.specs.Machines.{agent_of, machines_of, same_address}
+use Rattle.vip_config.specs.Ways.{all_attaches}
 use Rattle.vip_config.specs.declared.parts.ConfigParts.{ConfigParts}
 use Rattle.vip_config.specs.declared.parts.VipConf.{VipConf}
 
@@ -19,13 +19,9 @@ use Rattle.vip_config.specs.declared.parts.VipConf.{VipConf}
 abbrev pub agent_with : ConfigParts → Ip4 → Option ℕ
 agent_with c machine = agent_of (machines_of c.agents) machine
 
--- an agent's machines with their sockets
-abbrev pub attaches_of : AgentConf → List (Ip4 × Socket)
-attaches_of agent = map (λ machine. (machine.address, machine.attach)) agent.machines
-
 -- The socket from which a machine's packets come, and to which they are handed.
 abbrev pub attach_of : ConfigParts → Ip4 → Option Socket
-attach_of c machine = lookup (same_address machine) (flat_map attaches_of c.agents)
+attach_of c machine = lookup (same_address machine) (all_attaches c.agents)
 
 -- ---- leaving
 

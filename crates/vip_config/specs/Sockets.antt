@@ -4,7 +4,8 @@ use Rattle.wire_core.specs.declared.address.Socket.{Socket}
 use Rattle.config_text.specs.declared.agents.AgentConf.{AgentConf}
 use Rattle.config_text.specs.declared.agents.Attach.{Attach}
 use Rattle.vip_config.specs.Claims.{Claim, claim, claims_of}
-use Rattle.vip_config.specs.declared.place.Place.TheVariants.{Router, Replica as replica_at, Mux as mux_at, AgentSocket, MachineAttach}
+use Rattle.vip_config.specs.declared.place.Place.TheVariants.{Router, Replica as replica_at, Mux as mux_at, AgentSocket}
+use Rattle.vip_config.specs.declared.place.Place.TheVariants.{MachineAttach}
 use Rattle.vip_config.specs.declared.who.Who.{Who}
 use Rattle.vip_config.specs.declared.who.Who.TheVariants.{Replica, Mux, Agent, Machine, Outside}
 
@@ -26,4 +27,5 @@ agent_claims i agent = claim (AgentSocket i) agent.socket (Agent i) true ∷ cla
 -- each socket of the configuration, in the order of the walk
 abbrev pub socket_claims : Socket → List Socket → List Socket → List AgentConf → List (Claim Socket Who)
 socket_claims router replicas muxes agents =
-    claim Router router Outside true ∷ claims_of replica_claims 0 replicas ++ claims_of mux_claims 0 muxes ++ claims_of agent_claims 0 agents
+    claim Router router Outside true
+    ∷ claims_of replica_claims 0 replicas ++ claims_of mux_claims 0 muxes ++ claims_of agent_claims 0 agents

@@ -1,5 +1,6 @@
 -- Addresses and ports of VIPs.
-use Rattle.std.specs.Prelude.{ℕ, suc, ◌+◌, ◌%◌, ◌^◌, ◌<◌, ◌==◌, nat_le, nat_lt, Bool, not, ◌&&◌, List, [], ◌∷◌, Option, Some, None, if◌then◌else◌}
+use Rattle.std.specs.Prelude.{ℕ, suc, ◌+◌, ◌%◌, ◌^◌, ◌<◌, ◌==◌, nat_le, nat_lt, Bool, not, ◌&&◌, List, [], ◌∷◌, Option}
+use Rattle.std.specs.Prelude.{Some, None, if◌then◌else◌}
 use Rattle.std.specs.Option.{option_or}
 use Rattle.wire_core.specs.declared.address.Ip4.{Ip4}
 use Rattle.config_text.specs.declared.vips.VipText.{VipText}
@@ -19,7 +20,8 @@ abbrev pub is_high : ℕ → ℕ → Bool
 is_high low high = nat_le high 65535 && ((high + 1) % 8 == 0) && nat_lt low high
 
 abbrev pub wrong_port : ℕ → VipText → Option Place
-wrong_port i vip = if not (is_low vip.low) then Some (Low i) else if not (is_high vip.low vip.high) then Some (High i) else None
+wrong_port i vip =
+    if not (is_low vip.low) then Some (Low i) else if not (is_high vip.low vip.high) then Some (High i) else None
 
 -- the first `low` or `high` that isn't as it must be
 abbrev pub first_wrong_port : ℕ → List VipText → Option Place

@@ -1,5 +1,6 @@
 ghost use Rattle.std.specs.Prelude.{◌≡◌, Err, None, Some, IfOk, map};
 ghost use Rattle.config_text.specs.Faults.{Fails, Gives, field};
+ghost use Rattle.config_text.specs.Bounds.{IsBounded};
 ghost use Rattle.config_text.specs.Sizes.{IsSized};
 ghost use Rattle.vip_config.specs.Claims.{owners_of};
 ghost use Rattle.vip_config.specs.Configs.{broken_rule, checked, config_of, parts_of};
@@ -7,19 +8,22 @@ ghost use Rattle.vip_config.specs.Leases.{lease_rules_of, ranges_of};
 ghost use Rattle.vip_config.specs.Machines.{agent_of, machines_of};
 ghost use Rattle.vip_config.specs.Places.{path};
 ghost use Rattle.vip_config.specs.Queries.{KnowsOwners, counts_of, socket_of, who_of};
-ghost use Rattle.vip_config.specs.Rules.{HasLengths, KeepsRules, Once};
+ghost use Rattle.vip_config.specs.Rules.{HasBounds, HasLengths, KeepsRules, Once};
 ghost use Rattle.vip_config.specs.Sockets.{socket_claims};
+ghost use Rattle.vip_config.specs.Serving.{attach_of, has_snat, snat_vip};
+ghost use Rattle.vip_config.specs.Vips.{HasPorts};
 ghost use Rattle.vip_config.specs.declared.parts.ConfigParts as parts;
 ghost use Rattle.wire_core.specs.Members.{Each};
 
 use crate::broken::Broken;
-use crate::copies::{copy_index, copy_parts};
+use crate::copies::{copy_index, copy_parts, copy_ways};
 use crate::counts::{Counts, count_ranges};
 use crate::index::{Index, build_index};
 use crate::leases::make_rules;
 use crate::narrow::narrow_vips;
 use crate::parts::{ConfigParts, VipConf};
 use crate::place::Place;
+use crate::ways::{Ways, index_ways};
 use crate::who::Who;
 use config_text::{AgentConf, ConfigFault, Settings, Timers};
 use std::alloc::Global;
@@ -31,6 +35,7 @@ use wire_core::{Ip4, LeaseRules, NoMemory, NodeId, Socket};
 pub struct Config {
     parts: ConfigParts,
     index: Index,
+    ways: Ways,
 }
 
 impl Model for Config {
@@ -41,7 +46,12 @@ impl Model for Config {
 
     ghost view = { λ c. c.parts };
 
-    ghost invariant = { λ c. IsConfig c.parts c.index.sockets.entries c.index.machines.entries };
+    ghost invariant = { λ c. IsConfig c.parts (record {
+      sockets = c.index.sockets.entries;
+      machines = c.index.machines.entries;
+      attached = c.ways.attached.entries;
+      leaving = c.ways.leaving.entries;
+    }) };
 }
 
 fn fault_at(alloc: Global, place: Place) -> ConfigFault
@@ -53,31 +63,40 @@ fn fault_at(alloc: Global, place: Place) -> ConfigFault
     }
 }
 
-fn keep(alloc: Global, settings: Settings, index: Index) -> Result<Config, NoMemory>
-    requires sized { IsSized settings }
-    requires rules { broken_rule settings ≡ None }
-    requires sockets { index.sockets.entries ≡ owners_of (socket_claims settings.router settings.replicas settings.muxes settings.agents) }
-    requires machines { index.machines.entries ≡ machines_of settings.agents }
-    ensures { IfOk result (λ config. config ≡ parts_of settings) }
+fn make_parts(alloc: Global, settings: Settings) -> Result<ConfigParts, NoMemory>
+    requires { Each HasPorts settings.vips }
+    ensures { IfOk result (λ parts. parts ≡ parts_of settings) }
 {
     let vips = narrow_vips(alloc, settings.vips)?;
-    Ok(Config {
-        parts: ConfigParts {
-            version: settings.version,
-            router: settings.router,
-            replicas: settings.replicas,
-            muxes: settings.muxes,
-            agents: settings.agents,
-            vips,
-            limit: settings.limit,
-            timers: settings.timers,
-        },
-        index,
+    Ok(ConfigParts {
+        version: settings.version,
+        router: settings.router,
+        replicas: settings.replicas,
+        muxes: settings.muxes,
+        agents: settings.agents,
+        vips,
+        limit: settings.limit,
+        timers: settings.timers,
     })
 }
 
+fn keep(alloc: Global, settings: Settings, index: Index) -> Result<Config, NoMemory>
+    requires sized { IsSized settings }
+    requires bounded { IsBounded settings }
+    requires rules { broken_rule settings ≡ None }
+    requires sockets { index.sockets.entries
+        ≡ owners_of (socket_claims settings.router settings.replicas settings.muxes settings.agents) }
+    requires machines { index.machines.entries ≡ machines_of settings.agents }
+    ensures { IfOk result (λ config. config ≡ parts_of settings) }
+{
+    let parts = make_parts(alloc, settings)?;
+    let ways = index_ways(alloc, &parts)?;
+    Ok(Config { parts, index, ways })
+}
+
 fn check(alloc: Global, settings: Settings) -> Result<Config, ConfigFault>
-    requires { IsSized settings }
+    requires sized { IsSized settings }
+    requires bounded { IsBounded settings }
     ensures { Gives result (checked settings) }
 {
     match build_index(alloc, &settings) {
@@ -88,9 +107,10 @@ fn check(alloc: Global, settings: Settings) -> Result<Config, ConfigFault>
 }
 
 impl Config {
-    /// Reads a configuration: one JSON object (RFC 8259) whose members have their form and keep every rule. `Json` comes
-    /// exactly where the bytes are no JSON, and `Field` with the path of the first member that is wrong: first by the
-    /// form of the text, then by the rules in their order. The cost is linear in the text.
+    /// Reads a configuration: one JSON object, as `serde_json` reads it (UTF-8, 127 levels, no lone surrogate, numbers
+    /// within a double), whose members have their form and keep every rule. `Json` comes exactly where the bytes are no
+    /// such JSON, and `Field` with the path of the first member that is wrong: first by the form of the text, then by
+    /// the rules in their order. The cost is linear in the text.
     #[tactic(auto, unfolding(crate::specs::Configs::config_of))]
     pub fn read(alloc: Global, bytes: &[u8]) -> Result<Config, ConfigFault>
         ensures { Gives result (config_of bytes.now) }
@@ -99,11 +119,12 @@ impl Config {
         check(alloc, settings)
     }
 
-    /// Every configuration keeps the rules, its lists have their lengths, and it knows whose each socket and each machine
-    /// is. It does nothing else than to say so.
+    /// Every configuration keeps the rules, its lists have their lengths, its version, ports, limit and timers are
+    /// within their bounds, and it knows whose each socket and each machine is. It does nothing else than to say so.
     pub fn keeps_rules(&self)
         ensures rules { KeepsRules self.now }
         ensures lengths { HasLengths self.now }
+        ensures bounds { HasBounds self.now }
         ensures owners { KnowsOwners self.now }
     {
         let _ = &self.parts;
@@ -197,6 +218,32 @@ impl Config {
         self.index.machines.get(&machine).copied()
     }
 
+    /// The socket from which the machine's packets come, and to which they are handed. `None` exactly where the machine
+    /// isn't configured. A look-up by a hash.
+    pub fn attach_of(&self, machine: Ip4) -> Option<Socket>
+        ensures { result ≡ attach_of self.now machine }
+    {
+        self.ways.attached.get(&machine).copied()
+    }
+
+    /// The VIP from which the machine's connections leave. `None` exactly where the machine is in no `snat`. A look-up
+    /// by a hash.
+    pub fn snat_vip(&self, machine: Ip4) -> Option<Ip4>
+        ensures { result ≡ snat_vip self.now.vips machine }
+    {
+        self.ways.leaving.get(&machine).copied()
+    }
+
+    /// Whether the machine is in this VIP's `snat`. A look-up by a hash.
+    pub fn has_snat(&self, vip: Ip4, machine: Ip4) -> bool
+        ensures { result ≡ has_snat self.now.vips vip machine }
+    {
+        match self.ways.leaving.get(&machine) {
+            Some(found) => *found == vip,
+            None => false,
+        }
+    }
+
     /// How many muxes, agents, machines and VIPs there are.
     pub fn counts(&self) -> Counts
         ensures { result ≡ counts_of self.now }
@@ -215,7 +262,8 @@ impl Config {
         ensures exact { IfOk result (λ rules. rules ≡ lease_rules_of self.now) }
         ensures vips { IfOk result (λ rules. Once (map (λ rule. rule.vip) rules.vips)) }
         ensures machines { IfOk result (λ rules. Once (map (λ rule. rule.machine) rules.machines)) }
-        ensures agents { IfOk result (λ rules. Each (λ rule. agent_of (machines_of self.now.agents) rule.machine ≡ Some rule.agent) rules.machines) }
+        ensures agents { IfOk result (λ rules.
+            Each (λ rule. agent_of (machines_of self.now.agents) rule.machine ≡ Some rule.agent) rules.machines) }
     {
         let rules = make_rules(alloc, &self.parts, &self.index.machines)?;
         Ok(rules)
@@ -237,6 +285,7 @@ impl Config {
         Ok(Config {
             parts: copy_parts(alloc, &self.parts)?,
             index: copy_index(&self.index)?,
+            ways: copy_ways(&self.ways)?,
         })
     }
 }

@@ -2,6 +2,7 @@ ghost use Rattle.std.specs.Prelude.{◌≡◌, IfOk};
 
 use crate::index::Index;
 use crate::parts::{ConfigParts, VipConf, VipList};
+use crate::ways::Ways;
 use config_text::{
     AgentConf, AgentList, Attach, AttachList, Endpoint, EndpointList, IpList, Member, MemberList,
     SocketList,
@@ -106,6 +107,16 @@ pub fn copy_parts(alloc: Global, parts: &ConfigParts) -> Result<ConfigParts, NoM
         vips: copy_vips(alloc, parts.vips.as_slice())?,
         limit: parts.limit,
         timers: parts.timers,
+    })
+}
+
+pub fn copy_ways(ways: &Ways) -> Result<Ways, NoMemory>
+    ensures attached { IfOk result (λ copy. copy.attached.entries ≡ ways.now.attached.entries) }
+    ensures leaving { IfOk result (λ copy. copy.leaving.entries ≡ ways.now.leaving.entries) }
+{
+    Ok(Ways {
+        attached: ways.attached.clone()?,
+        leaving: ways.leaving.clone()?,
     })
 }
 

@@ -67,7 +67,9 @@ fn claim_member(
     k: usize,
     member: Member,
 ) -> Result<(), NoMemory>
-    ensures { OnOk result (walk.new ≡ all_claimed same_endpoint_key walk.old (member_claims machines.now.entries at.vip at.endpoint at.proto k member)) }
+    ensures { OnOk result (walk.new
+        ≡ all_claimed same_endpoint_key walk.old
+        (member_claims machines.now.entries at.vip at.endpoint at.proto k member)) }
 {
     let At {
         vip,
@@ -97,7 +99,9 @@ fn claim_members(
     at: At,
     members: &[Member],
 ) -> Result<(), NoMemory>
-    ensures { OnOk result (walk.new ≡ all_claimed same_endpoint_key walk.old (claims_of (member_claims machines.now.entries at.vip at.endpoint at.proto) 0 members.now)) }
+    ensures { OnOk result (walk.new
+        ≡ all_claimed same_endpoint_key walk.old
+        (claims_of (member_claims machines.now.entries at.vip at.endpoint at.proto) 0 members.now)) }
 {
     for (k, member) in members.iter().enumerate() {
         claim_member(walk, machines, at, k, *member)?;
@@ -112,7 +116,8 @@ fn claim_endpoint(
     j: usize,
     endpoint: &Endpoint,
 ) -> Result<(), NoMemory>
-    ensures { OnOk result (walk.new ≡ all_claimed same_endpoint_key walk.old (endpoint_claims machines.now.entries vip j endpoint.now)) }
+    ensures { OnOk result (walk.new
+        ≡ all_claimed same_endpoint_key walk.old (endpoint_claims machines.now.entries vip j endpoint.now)) }
 {
     let Endpoint { proto, port, .. } = *endpoint;
     let key = EndpointKey::Port { vip, proto, port };
@@ -131,7 +136,9 @@ fn claim_endpoints(
     vip: usize,
     endpoints: &[Endpoint],
 ) -> Result<(), NoMemory>
-    ensures { OnOk result (walk.new ≡ all_claimed same_endpoint_key walk.old (claims_of (endpoint_claims machines.now.entries vip) 0 endpoints.now)) }
+    ensures { OnOk result (walk.new
+        ≡ all_claimed same_endpoint_key walk.old
+        (claims_of (endpoint_claims machines.now.entries vip) 0 endpoints.now)) }
 {
     for (j, endpoint) in endpoints.iter().enumerate() {
         claim_endpoint(walk, machines, vip, j, endpoint)?;
@@ -144,7 +151,8 @@ fn claim_vips(
     machines: &IndexMap<Ip4, u16>,
     vips: &[VipText],
 ) -> Result<(), NoMemory>
-    ensures { OnOk result (walk.new ≡ all_claimed same_endpoint_key walk.old (claims_of (vip_endpoint_claims machines.now.entries) 0 vips.now)) }
+    ensures { OnOk result (walk.new
+        ≡ all_claimed same_endpoint_key walk.old (claims_of (vip_endpoint_claims machines.now.entries) 0 vips.now)) }
 {
     for (i, vip) in vips.iter().enumerate() {
         claim_endpoints(walk, machines, i, vip.endpoints.as_slice())?;
@@ -159,7 +167,8 @@ pub fn check_endpoints(
     machines: &IndexMap<Ip4, u16>,
     vips: &[VipText],
 ) -> Result<(), Broken>
-    ensures { Tells (first_broken same_endpoint_key [] (claims_of (vip_endpoint_claims machines.now.entries) 0 vips.now)) result }
+    ensures { Tells (first_broken same_endpoint_key []
+        (claims_of (vip_endpoint_claims machines.now.entries) 0 vips.now)) result }
 {
     let mut walk = Walk::new(alloc);
     claim_vips(&mut walk, machines, vips)?;

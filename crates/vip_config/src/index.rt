@@ -38,7 +38,8 @@ fn check_vips(alloc: Global, machines: &IndexMap<Ip4, u16>, vips: &[VipText]) ->
 pub fn build_index(alloc: Global, settings: &Settings) -> Result<Index, Broken>
     requires { IsSized settings.now }
     ensures rules { Tells (broken_rule settings.now) result }
-    ensures sockets { IfOk result (λ index. index.sockets.entries ≡ owners_of (socket_claims settings.now.router settings.now.replicas settings.now.muxes settings.now.agents)) }
+    ensures sockets { IfOk result (λ index. index.sockets.entries ≡ owners_of
+        (socket_claims settings.now.router settings.now.replicas settings.now.muxes settings.now.agents)) }
     ensures machines { IfOk result (λ index. index.machines.entries ≡ machines_of settings.now.agents) }
 {
     let agents = settings.agents.as_slice();

@@ -1,5 +1,6 @@
 ghost use Rattle.std.specs.Prelude.{◌≡◌, ◌++◌, map, IfOk, OnOk};
-ghost use Rattle.vip_config.specs.Leases.{all_machine_rules, machine_rule, machine_rules, rules_of, taken_ports, vip_rule};
+ghost use Rattle.vip_config.specs.Leases.{all_machine_rules, machine_rule, machine_rules, rules_of};
+ghost use Rattle.vip_config.specs.Leases.{taken_ports, vip_rule};
 
 use crate::parts::{ConfigParts, VipConf};
 use config_text::Endpoint;

@@ -1,8 +1,8 @@
 //! A checked configuration: the rules between its members, and what the roles ask of it.
 //!
-//! [`Config::read`] takes the text apart with `config_text` and then tests six rules, each a walk over some members in the
-//! order of the text. In a walk each member claims a key that may stand once; the first one that doesn't fit, or whose key
-//! is claimed already, is the answer, by its path.
+//! [`Config::read`] takes the text apart with `config_text` and then tests six rules, each a walk over some members in
+//! the order of the text. In a walk each member claims a key that may stand once; the first one that doesn't fit, or
+//! whose key is claimed already, is the answer, by its path.
 //!
 //! | module | what it tests or keeps | rule |
 //! |---|---|---|
@@ -19,8 +19,8 @@
 //! | `rules` | [`broken_rules`]: the rules are broken exactly where their plain words do not hold | |
 //! | `leases`, `counts`, `copies` | the rules of leasing, numbers of members, a copy | |
 //!
-//! A [`Config`] is seen as its parts. That it keeps the rules is [`Config::keeps_rules`]. Whose a socket is and of which
-//! agent a machine is, is found by a hash.
+//! A [`Config`] is seen as its parts. That it keeps the rules is [`Config::keeps_rules`]. Whose a socket is and of
+//! which agent a machine is, is found by a hash.
 #![tactic(auto)]
 
 mod broken;
@@ -39,6 +39,7 @@ mod snat;
 mod sockets;
 mod vips;
 mod walk;
+mod ways;
 mod who;
 
 pub use config::Config;

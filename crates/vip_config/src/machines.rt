@@ -16,7 +16,8 @@ fn claim_addresses(
     machines: &[Attach],
 ) -> Result<(), NoMemory>
     requires { agent ≤ 256 }
-    ensures { OnOk result (walk.new ≡ all_claimed same_address walk.old (claims_of (address_claims agent) 0 machines.now)) }
+    ensures { OnOk result (walk.new
+        ≡ all_claimed same_address walk.old (claims_of (address_claims agent) 0 machines.now)) }
 {
     for (j, machine) in machines.iter().enumerate() {
         let place = Place::MachineAddress(agent, j);

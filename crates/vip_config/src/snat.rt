@@ -17,7 +17,8 @@ fn claim_snat(
     vip: usize,
     snat: &[Ip4],
 ) -> Result<(), NoMemory>
-    ensures { OnOk result (walk.new ≡ all_claimed same_address walk.old (claims_of (snat_claims machines.now.entries vip) 0 snat.now)) }
+    ensures { OnOk result (walk.new
+        ≡ all_claimed same_address walk.old (claims_of (snat_claims machines.now.entries vip) 0 snat.now)) }
 {
     for (j, address) in snat.iter().enumerate() {
         let fits = machines.contains_key(address);
@@ -31,7 +32,8 @@ fn claim_vips(
     machines: &IndexMap<Ip4, u16>,
     vips: &[VipText],
 ) -> Result<(), NoMemory>
-    ensures { OnOk result (walk.new ≡ all_claimed same_address walk.old (claims_of (vip_snat_claims machines.now.entries) 0 vips.now)) }
+    ensures { OnOk result (walk.new
+        ≡ all_claimed same_address walk.old (claims_of (vip_snat_claims machines.now.entries) 0 vips.now)) }
 {
     for (i, vip) in vips.iter().enumerate() {
         claim_snat(walk, machines, i, vip.snat.as_slice())?;
@@ -45,7 +47,8 @@ pub fn check_snat(
     machines: &IndexMap<Ip4, u16>,
     vips: &[VipText],
 ) -> Result<(), Broken>
-    ensures { Tells (first_broken same_address [] (claims_of (vip_snat_claims machines.now.entries) 0 vips.now)) result }
+    ensures { Tells (first_broken same_address []
+        (claims_of (vip_snat_claims machines.now.entries) 0 vips.now)) result }
 {
     let mut walk = Walk::new(alloc);
     claim_vips(&mut walk, machines, vips)?;

@@ -1,6 +1,7 @@
 ghost use Rattle.std.specs.Prelude.{◌≡◌, ◌≤◌, length, OnOk};
 ghost use Rattle.vip_config.specs.Claims.{all_claimed, claims_of, nothing_claimed, Indexes};
-ghost use Rattle.vip_config.specs.Sockets.{agent_claims, mux_claims, replica_claims, same_socket, socket_claims, attach_claims};
+ghost use Rattle.vip_config.specs.Sockets.{agent_claims, mux_claims, replica_claims, same_socket, socket_claims};
+ghost use Rattle.vip_config.specs.Sockets.{attach_claims};
 
 use crate::broken::Broken;
 use crate::place::Place;
@@ -36,7 +37,8 @@ fn claim_attached(
     agent: usize,
     machines: &[Attach],
 ) -> Result<(), NoMemory>
-    ensures { OnOk result (walk.new ≡ all_claimed same_socket walk.old (claims_of (attach_claims agent) 0 machines.now)) }
+    ensures { OnOk result (walk.new
+        ≡ all_claimed same_socket walk.old (claims_of (attach_claims agent) 0 machines.now)) }
 {
     for (j, machine) in machines.iter().enumerate() {
         let owner = Who::Machine(machine.address);

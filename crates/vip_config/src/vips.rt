@@ -16,7 +16,8 @@ fn claim_vips(
     machines: &IndexMap<Ip4, u16>,
     vips: &[VipText],
 ) -> Result<(), NoMemory>
-    ensures { OnOk result (walk.new ≡ all_claimed same_address walk.old (claims_of (vip_claims machines.now.entries) 0 vips.now)) }
+    ensures { OnOk result (walk.new
+        ≡ all_claimed same_address walk.old (claims_of (vip_claims machines.now.entries) 0 vips.now)) }
 {
     for (i, vip) in vips.iter().enumerate() {
         let fits = !machines.contains_key(&vip.address);

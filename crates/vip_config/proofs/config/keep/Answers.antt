@@ -1,20 +1,27 @@
-use Rattle.std.proofs.Common.{List, sym, subst}
-use Rattle.vip_config.specs.Rules.{HasLengths, KeepsRules}
+use Rattle.std.proofs.Common.{ap, sym, subst, ◌∙◌}
+use Rattle.vip_config.specs.Claims.{owners_of}
+use Rattle.vip_config.specs.Machines.{machines_of}
+use Rattle.vip_config.specs.Rules.{HasBounds, HasLengths, KeepsRules}
+use Rattle.vip_config.specs.Sockets.{socket_claims}
 use Rattle.vip_config.specs.declared.parts.ConfigParts.{ConfigParts}
-use Rattle.vip_config.specs.declared.parts.VipConf.{VipConf}
-use Rattle.vip_config.proofs.Laws.{has_lengths, has_ports, keeps_rules}
+use Rattle.vip_config.proofs.Laws.{has_bounds, has_lengths, has_ports, keeps_rules}
 use Rattle.vip_config.proofs.config.keep.Goals as goal
 
-pub narrow_vips-requires : goal.narrow_vips-requires
-narrow_vips-requires c = has_ports c.args.settings.vips (keeps_rules c.args.settings c.requires.rules).ranges
+pub make_parts-requires : goal.make_parts-requires
+make_parts-requires c = has_ports c.args.settings.vips (keeps_rules c.args.settings c.requires.rules).ranges
 
 pub invariant_of-result : goal.invariant_of-result
 invariant_of-result c =
     let s = c.args.settings in
-    let parts : List VipConf → ConfigParts = λ vips. record { version = s.version; router = s.router; replicas = s.replicas; muxes = s.muxes; agents = s.agents; vips = vips; limit = s.limit; timers = s.timers } in
+    let is = sym c.in_ok-parts.ensures in
     record {
-      rules = subst (λ vips. KeepsRules (parts vips)) (sym c.in_ok-vips.ensures) (keeps_rules s c.requires.rules);
-      lengths = subst (λ vips. HasLengths (parts vips)) (sym c.in_ok-vips.ensures) (has_lengths s c.requires.sized);
-      of_sockets = c.requires.sockets;
-      of_machines = c.requires.machines;
+      rules = subst KeepsRules is (keeps_rules s c.requires.rules);
+      bounds = subst HasBounds is (has_bounds s c.requires.bounded);
+      lengths = subst HasLengths is (has_lengths s c.requires.sized);
+      of_sockets =
+          c.requires.sockets
+          ∙ ap (λ (p : ConfigParts). owners_of (socket_claims p.router p.replicas p.muxes p.agents)) is;
+      of_machines = c.requires.machines ∙ ap (λ (p : ConfigParts). machines_of p.agents) is;
+      of_attached = c.in_ok-ways.ensures.attached;
+      of_leaving = c.in_ok-ways.ensures.leaving;
     }

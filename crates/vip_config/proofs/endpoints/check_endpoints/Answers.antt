@@ -7,4 +7,5 @@ use Rattle.vip_config.proofs.endpoints.check_endpoints.Goals as goal
 pub returns : goal.returns
 returns c =
     let claims = claims_of (vip_endpoint_claims c.args.machines.now.entries) 0 c.args.vips.now in
-    tells same_endpoint_key claims c.claim_vips.new.walk c.check.result (c.in_ok-claim_vips.ensures ∙ ap (λ w. all_claimed same_endpoint_key w claims) c.new-walk.ensures) c.check.ensures
+    tells same_endpoint_key claims c.claim_vips.new.walk c.check.result
+    (c.in_ok-claim_vips.ensures ∙ ap (λ w. all_claimed same_endpoint_key w claims) c.new-walk.ensures) c.check.ensures

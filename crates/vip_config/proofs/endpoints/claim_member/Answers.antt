@@ -8,4 +8,6 @@ use Rattle.vip_config.proofs.endpoints.claim_member.Goals as goal
 pub returns : goal.returns
 returns c =
     c.in_ok-claim-2.ensures
-    ∙ (λ t. claimed same_endpoint_key (c.in_ok-claim.ensures t) (claim (MemberAddress c.args.at.vip c.args.at.endpoint c.args.k) (Machine c.args.at.vip c.args.at.endpoint c.args.member.address) tt (c.contains_key-fits.ensures t)))
+    ∙ (λ t. claimed same_endpoint_key (c.in_ok-claim.ensures t)
+    (claim (MemberAddress c.args.at.vip c.args.at.endpoint c.args.k)
+    (Machine c.args.at.vip c.args.at.endpoint c.args.member.address) tt (c.contains_key-fits.ensures t)))

@@ -8,5 +8,10 @@ use Rattle.vip_config.proofs.endpoints.claim_vips.Goals as goal
 
 pub loop-i-preserved : goal.loop-i-preserved
 loop-i-preserved c =
-    one_more same_endpoint_key (vip_endpoint_claims c.args.machines.now.entries) c.args.walk.now c.loop-i.walk c.claim_endpoints.new.walk c.loop-i.i _ c.args.vips.now c.loop-i-test.true
-    (c.in_ok-claim_endpoints.ensures ∙ ap (λ s. all_claimed same_endpoint_key c.loop-i.walk (claims_of (endpoint_claims c.args.machines.now.entries c.loop-i.i) 0 s)) c.as_slice.ensures ∙ ap (λ x. all_claimed same_endpoint_key c.loop-i.walk ((vip_endpoint_claims c.args.machines.now.entries) c.loop-i.i x)) c.index-vips-i.is) c.loop-i.invariant
+    one_more same_endpoint_key (vip_endpoint_claims c.args.machines.now.entries) c.args.walk.now c.loop-i.walk
+    c.claim_endpoints.new.walk c.loop-i.i _ c.args.vips.now c.loop-i-test.true
+    (c.in_ok-claim_endpoints.ensures
+    ∙ ap (λ s. all_claimed same_endpoint_key c.loop-i.walk
+    (claims_of (endpoint_claims c.args.machines.now.entries c.loop-i.i) 0 s)) c.as_slice.ensures
+    ∙ ap (λ x. all_claimed same_endpoint_key c.loop-i.walk
+    ((vip_endpoint_claims c.args.machines.now.entries) c.loop-i.i x)) c.index-vips-i.is) c.loop-i.invariant

@@ -4,5 +4,6 @@ use Rattle.vip_config.proofs.machines.claim_addresses.Goals as goal
 
 pub loop-j-preserved : goal.loop-j-preserved
 loop-j-preserved c =
-    one_more same_address (address_claims c.args.agent) c.args.walk.now c.loop-j.walk c.claim.new.self c.loop-j.j _ c.args.machines.now c.loop-j-test.true
+    one_more same_address (address_claims c.args.agent) c.args.walk.now c.loop-j.walk c.claim.new.self c.loop-j.j _
+    c.args.machines.now c.loop-j-test.true
     c.in_ok-claim.ensures c.loop-j.invariant

@@ -4,4 +4,5 @@ use Rattle.vip_config.specs.Machines.{address_claims, same_address}
 use Rattle.vip_config.proofs.machines.claim_addresses.Given as goal
 
 abbrev pub invariant-loop-j : goal.invariant-loop-j
-invariant-loop-j l = l.walk ≡ all_claimed same_address l.fn.walk (claims_of (address_claims l.agent) 0 (take l.j l.machines))
+invariant-loop-j l =
+    l.walk ≡ all_claimed same_address l.fn.walk (claims_of (address_claims l.agent) 0 (take l.j l.machines))

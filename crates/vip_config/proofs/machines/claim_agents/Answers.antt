@@ -8,5 +8,9 @@ use Rattle.vip_config.proofs.machines.claim_agents.Goals as goal
 
 pub loop-i-preserved : goal.loop-i-preserved
 loop-i-preserved c =
-    one_more same_address agent_address_claims c.args.walk.now c.loop-i.walk c.claim_addresses.new.walk c.loop-i.i _ c.args.agents.now c.loop-i-test.true
-    (c.in_ok-claim_addresses.ensures ∙ ap (λ s. all_claimed same_address c.loop-i.walk (claims_of (address_claims c.loop-i.i) 0 s)) c.as_slice.ensures ∙ ap (λ x. all_claimed same_address c.loop-i.walk (agent_address_claims c.loop-i.i x)) c.index-agents-i.is) c.loop-i.invariant
+    one_more same_address agent_address_claims c.args.walk.now c.loop-i.walk c.claim_addresses.new.walk c.loop-i.i _
+    c.args.agents.now c.loop-i-test.true
+    (c.in_ok-claim_addresses.ensures
+    ∙ ap (λ s. all_claimed same_address c.loop-i.walk (claims_of (address_claims c.loop-i.i) 0 s)) c.as_slice.ensures
+    ∙ ap (λ x. all_claimed same_address c.loop-i.walk (agent_address_claims c.loop-i.i x)) c.index-agents-i.is)
+    c.loop-i.invariant

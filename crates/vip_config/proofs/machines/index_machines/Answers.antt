@@ -7,4 +7,5 @@ use Rattle.vip_config.proofs.machines.index_machines.Goals as goal
 pub returns : goal.returns
 returns c =
     let claims = machine_claims c.args.agents.now in
-    ends same_address claims c.claim_agents.new.walk c.end.result (c.in_ok-claim_agents.ensures ∙ ap (λ w. all_claimed same_address w claims) c.new-walk.ensures) c.end.ensures
+    ends same_address claims c.claim_agents.new.walk c.end.result
+    (c.in_ok-claim_agents.ensures ∙ ap (λ w. all_claimed same_address w claims) c.new-walk.ensures) c.end.ensures

@@ -5,4 +5,5 @@ use Rattle.vip_config.specs.Snat.{snat_claims}
 use Rattle.vip_config.proofs.snat.claim_snat.Given as goal
 
 abbrev pub invariant-loop-j : goal.invariant-loop-j
-invariant-loop-j l = l.walk ≡ all_claimed same_address l.fn.walk (claims_of (snat_claims l.machines.entries l.vip) 0 (take l.j l.snat))
+invariant-loop-j l =
+    l.walk ≡ all_claimed same_address l.fn.walk (claims_of (snat_claims l.machines.entries l.vip) 0 (take l.j l.snat))

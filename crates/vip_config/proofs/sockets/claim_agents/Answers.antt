@@ -6,5 +6,8 @@ use Rattle.vip_config.proofs.sockets.claim_agents.Goals as goal
 
 pub loop-i-preserved : goal.loop-i-preserved
 loop-i-preserved c =
-    one_more same_socket agent_claims c.args.walk.now c.loop-i.walk c.claim_agent.new.walk c.loop-i.i _ c.args.agents.now c.loop-i-test.true
-    (c.in_ok-claim_agent.ensures ∙ ap (λ agent. all_claimed same_socket c.loop-i.walk (agent_claims c.loop-i.i agent)) c.index-agents-i.is) c.loop-i.invariant
+    one_more same_socket agent_claims c.args.walk.now c.loop-i.walk c.claim_agent.new.walk c.loop-i.i _
+    c.args.agents.now c.loop-i-test.true
+    (c.in_ok-claim_agent.ensures
+    ∙ ap (λ agent. all_claimed same_socket c.loop-i.walk (agent_claims c.loop-i.i agent)) c.index-agents-i.is)
+    c.loop-i.invariant

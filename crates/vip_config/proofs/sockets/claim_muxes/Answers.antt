@@ -3,4 +3,6 @@ use Rattle.vip_config.proofs.Walks.{one_more}
 use Rattle.vip_config.proofs.sockets.claim_muxes.Goals as goal
 
 pub loop-i-preserved : goal.loop-i-preserved
-loop-i-preserved c = one_more same_socket mux_claims c.args.walk.now c.loop-i.walk c.claim.new.self c.loop-i.i _ c.args.muxes.now c.loop-i-test.true c.in_ok-claim.ensures c.loop-i.invariant
+loop-i-preserved c =
+    one_more same_socket mux_claims c.args.walk.now c.loop-i.walk c.claim.new.self c.loop-i.i _ c.args.muxes.now
+    c.loop-i-test.true c.in_ok-claim.ensures c.loop-i.invariant

@@ -12,8 +12,16 @@ returns c =
     let replicas = claims_of replica_claims 0 c.args.replicas.now in
     let muxes = claims_of mux_claims 0 c.args.muxes.now in
     let agents = claims_of agent_claims 0 c.args.agents.now in
-    let first : c.claim.new.self ≡ all_claimed same_socket nothing_claimed router = c.in_ok-claim.ensures ∙ ap (λ w. all_claimed same_socket w router) c.new-walk.ensures in
-    let second = goes_on same_socket nothing_claimed c.claim.new.self c.claim_replicas.new.walk router replicas c.in_ok-claim_replicas.ensures first in
-    let third = goes_on same_socket nothing_claimed c.claim_replicas.new.walk c.claim_muxes.new.walk (router ++ replicas) muxes c.in_ok-claim_muxes.ensures second in
-    let fourth = goes_on same_socket nothing_claimed c.claim_muxes.new.walk c.claim_agents.new.walk (router ++ replicas ++ muxes) agents c.in_ok-claim_agents.ensures third in
-    ends same_socket (socket_claims c.args.router c.args.replicas.now c.args.muxes.now c.args.agents.now) c.claim_agents.new.walk c.end.result fourth c.end.ensures
+    let first : c.claim.new.self ≡ all_claimed same_socket nothing_claimed router =
+    c.in_ok-claim.ensures ∙ ap (λ w. all_claimed same_socket w router) c.new-walk.ensures in
+    let second =
+    goes_on same_socket nothing_claimed c.claim.new.self c.claim_replicas.new.walk router
+    replicas c.in_ok-claim_replicas.ensures first in
+    let third =
+    goes_on same_socket nothing_claimed c.claim_replicas.new.walk c.claim_muxes.new.walk
+    (router ++ replicas) muxes c.in_ok-claim_muxes.ensures second in
+    let fourth =
+    goes_on same_socket nothing_claimed c.claim_muxes.new.walk c.claim_agents.new.walk
+    (router ++ replicas ++ muxes) agents c.in_ok-claim_agents.ensures third in
+    ends same_socket (socket_claims c.args.router c.args.replicas.now c.args.muxes.now c.args.agents.now)
+    c.claim_agents.new.walk c.end.result fourth c.end.ensures

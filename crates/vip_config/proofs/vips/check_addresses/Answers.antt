@@ -8,4 +8,5 @@ use Rattle.vip_config.proofs.vips.check_addresses.Goals as goal
 pub returns : goal.returns
 returns c =
     let claims = claims_of (vip_claims c.args.machines.now.entries) 0 c.args.vips.now in
-    tells same_address claims c.claim_vips.new.walk c.check.result (c.in_ok-claim_vips.ensures ∙ ap (λ w. all_claimed same_address w claims) c.new-walk.ensures) c.check.ensures
+    tells same_address claims c.claim_vips.new.walk c.check.result
+    (c.in_ok-claim_vips.ensures ∙ ap (λ w. all_claimed same_address w claims) c.new-walk.ensures) c.check.ensures

@@ -5,4 +5,5 @@ use Rattle.vip_config.specs.Vips.{vip_claims}
 use Rattle.vip_config.proofs.vips.claim_vips.Given as goal
 
 abbrev pub invariant-loop-i : goal.invariant-loop-i
-invariant-loop-i l = l.walk ≡ all_claimed same_address l.fn.walk (claims_of (vip_claims l.machines.entries) 0 (take l.i l.vips))
+invariant-loop-i l =
+    l.walk ≡ all_claimed same_address l.fn.walk (claims_of (vip_claims l.machines.entries) 0 (take l.i l.vips))

@@ -8,5 +8,8 @@ use Rattle.vip_config.proofs.config.Config.who.Goals as goal
 
 pub returns-in-Some : goal.returns-in-Some
 returns-in-Some c =
-    let found : Some c.in-Some.who.now ≡ lookup (same_socket c.args.s.now) c.self.inside.index.sockets.entries = sym (ap option_copied c.in-Some.is) ∙ c.get.ensures.value in
-    ap (λ o. unwrap_or o Outside) found ∙ ap (λ es. unwrap_or (lookup (same_socket c.args.s.now) es) Outside) c.self.invariant.of_sockets ∙ ap (λ parts. who_of parts c.args.s.now) c.self.view_is
+    let found : Some c.in-Some.who.now ≡ lookup (same_socket c.args.s.now) c.self.inside.index.sockets.entries =
+    sym (ap option_copied c.in-Some.is) ∙ c.get.ensures.value in
+    ap (λ o. unwrap_or o Outside) found
+    ∙ ap (λ es. unwrap_or (lookup (same_socket c.args.s.now) es) Outside) c.self.invariant.of_sockets
+    ∙ ap (λ parts. who_of parts c.args.s.now) c.self.view_is

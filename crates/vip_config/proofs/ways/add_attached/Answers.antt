@@ -1,0 +1,9 @@
+use Rattle.config_text.specs.declared.agents.Attach.{Attach}
+use Rattle.vip_config.proofs.Lookups.{finds_mapped}
+use Rattle.vip_config.proofs.ways.add_attached.Goals as goal
+
+pub loop-machine-preserved : goal.loop-machine-preserved
+loop-machine-preserved c =
+    finds_mapped c.args.machines.now c.loop-machine.machine-index _ c.loop-machine-test.true
+    (λ (machine : Attach). (machine.address, machine.attach)) c.args.index.now.entries
+    c.loop-machine.index.entries c.add.new.index.entries c.loop-machine.invariant c.in_ok-add.ensures

@@ -1,0 +1,7 @@
+use Rattle.std.proofs.Common.{◌++◌, map, take}
+use Rattle.vip_config.specs.Ways.{FindsAs}
+use Rattle.vip_config.proofs.ways.add_leaving.Given as goal
+
+abbrev pub invariant-loop-machine : goal.invariant-loop-machine
+invariant-loop-machine l =
+    FindsAs l.index.entries (l.fn.index.entries ++ map (λ machine. (machine, l.vip)) (take l.machine-index l.machines))
