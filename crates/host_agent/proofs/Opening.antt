@@ -26,6 +26,7 @@ unused_passes used (p ∷ ps) chosen e = by (used p.1) refl (unused_passes used 
   where
     same : (a b : ℕ × ℕ) → Some a ≡ Some b → a ≡ b
     same a b e = cc
+
     by : (b : Bool) → used p.1 ≡ b → (first_unused used ps ≡ Some chosen → used chosen.1 ≡ false)
         → cond (not b) (Some p) (first_unused used ps) ≡ Some chosen → used chosen.1 ≡ false
     by true is more e = more e

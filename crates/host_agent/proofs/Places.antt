@@ -23,6 +23,7 @@ place_is p xs i e = by (nat_lt (position_or_len p xs) (length xs)) e
   where
     same : (a b : ℕ) → Some a ≡ Some b → a ≡ b
     same a b e = cc
+
     by : (b : Bool) → cond b (Some (position_or_len p xs)) None ≡ Some i → position_or_len p xs ≡ i
     by true e = same _ _ e
     by false e = absurd (cc)
@@ -127,6 +128,7 @@ swapped a b = by (same_ip a b) (same_ip b a) refl refl
   where
     no_false : false ≡ true → ⊥
     no_false e = cc
+
     by : (x y : Bool) → same_ip a b ≡ x → same_ip b a ≡ y → x ≡ y
     by true true e f = refl
     by false false e f = refl

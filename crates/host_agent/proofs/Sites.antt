@@ -46,6 +46,6 @@ stayed_packet c boot hint o p q t u h g bytes (Some r) left e is s =
     absurd (no_false (sym (ap (λ (x : Traffic × (Step × Bool)). x.1.1) e) ∙ is))
 stayed_packet c boot hint o p q t u h g bytes None left e is s =
     let made : Traffic × Step → Site × Step = λ y.
-      (site y.0 (stays boot hint y.0.time h bytes).state, onto c y.1 (stays boot hint y.0.time h bytes)) in
+    (site y.0 (stays boot hint y.0.time h bytes).state, onto c y.1 (stays boot hint y.0.time h bytes)) in
     ap (λ (x : Host × Step). (site u x.0, x.1)) s
     ∙ ap made (ap (λ (x : Traffic × (Step × Bool)). (x.0, x.1.0)) e)

@@ -5,3 +5,4 @@ pub mod Leaving
 pub mod Retries
 pub mod Hosts
 pub mod Transfers
+pub mod Idle

@@ -1,4 +1,4 @@
-ghost use Rattle.std.specs.Prelude.{◌≡◌, position, slice_get, IfOk, IfSome};
+ghost use Rattle.std.specs.Prelude.{◌≡◌, ◌<◌, length, position, IfSome};
 ghost use Rattle.wire_core.specs.Same.{same_ip};
 
 use crate::host::{Host, Origin};
@@ -14,14 +14,14 @@ pub struct Agent {
     pub(crate) cfg: Config,
     /// What may be leased.
     pub(crate) rules: LeaseRules,
-    index: u16,
+    pub(crate) index: u16,
     pub(crate) origin: Origin,
     /// Whether a primary knows this boot.
     pub(crate) known: bool,
     /// As configured.
     pub(crate) hosts: Vec<Host>,
     /// Their addresses, each at its host's place.
-    machines: IndexSet<Ip4>,
+    pub(crate) machines: IndexSet<Ip4>,
     pub(crate) traffic: Traffic,
 }
 
@@ -49,7 +49,8 @@ impl Model for Agent {
 impl Agent {
     /// The place of a machine of its own.
     pub(crate) fn place_of(&self, machine: Ip4) -> Option<usize>
-        ensures { result ≡ position (λ h. same_ip h.machine machine) self.now.lists.hosts }
+        ensures place { result ≡ position (λ h. same_ip h.machine machine) self.now.lists.hosts }
+        ensures within { IfSome result (λ i. i < length self.now.lists.hosts) }
     {
         self.machines.get_index_of(&machine)
     }

@@ -37,7 +37,13 @@ impl Agent {
 
     /// Returned: the number needn't be given back again.
     #[tactic(auto, using(node_spec::proofs::Turning::quiet_turned, node_spec::proofs::Turning::drop_turned), unfolding(agent_spec::specs::Answers::on_returned))]
-    pub(crate) fn on_returned(&mut self, step: &mut Step, from: u8, boot: u64, n: u64) -> Result<(), NoMemory>
+    pub(crate) fn on_returned(
+        &mut self,
+        step: &mut Step,
+        from: u8,
+        boot: u64,
+        n: u64,
+    ) -> Result<(), NoMemory>
         ensures { OnOk result ((self.new, step.new)
             ≡ turned (with_lists self.old) self.old.config step.old (on_returned self.old.lists from boot n)) }
     {
@@ -76,5 +82,47 @@ impl Agent {
         self.hosts[place].refuse(step)?;
         self.origin.hint = from;
         Ok(())
+    }
+
+    /// Grant: a range is the machine's, unless it is another boot's, not the machine's to have, or an old one.
+    #[tactic(auto, using(node_spec::proofs::Turning::drop_turned), unfolding(agent_spec::specs::Answers::on_grant))]
+    pub(crate) fn on_grant(
+        &mut self,
+        alloc: Global,
+        step: &mut Step,
+        from: u8,
+        boot: u64,
+        grant: &Granted,
+    ) -> Result<(), NoMemory>
+        ensures { OnOk result ((self.new, step.new)
+            ≡ turned (with_lists self.old) self.old.config step.old
+            (on_grant self.old.config self.old.lists from boot grant.now.machine grant.now.seq grant.now.n grant.now.range)) }
+    {
+        if boot != self.origin.boot {
+            return drop_for(step, DropCause::WrongBoot(self.origin.boot));
+        }
+        let Some(place) = self.place_of(grant.machine) else {
+            return drop_for(step, DropCause::NotMine);
+        };
+        let machine = self.hosts[place].machine();
+        if !(self.cfg.has_snat(grant.range.vip, machine) && self.rules.leasable(&grant.range)) {
+            return drop_for(step, DropCause::NotMine);
+        }
+        match self.traffic.grant(grant.n, &grant.range, machine)? {
+            Granting::Old { kept } => drop_for(step, DropCause::OldGrant(kept)),
+            Granting::Held => {
+                self.origin.hint = from;
+                take_grant(
+                    alloc,
+                    &self.cfg,
+                    &self.origin,
+                    &mut self.traffic,
+                    &mut self.hosts[place],
+                    step,
+                    grant.seq,
+                    grant.n,
+                )
+            }
+        }
     }
 }

@@ -118,7 +118,7 @@ pub(crate) fn take_grant(
 ) -> Result<(), NoMemory>
     ensures turn { OnOk result ((site traffic.new host.new, step.new)
         ≡ turned as_is cfg.now step.old
-          (take_grant cfg.now origin.now.boot origin.now.hint (site traffic.old host.old) seq n)) }
+        (take_grant cfg.now origin.now.boot origin.now.hint (site traffic.old host.old) seq n)) }
     ensures machine { host.new.machine ≡ host.old.machine }
 {
     let waiting = host.begin(alloc, seq)?;

@@ -5,7 +5,6 @@ ghost use Rattle.host_agent.specs.Transfers.{handed};
 ghost use Rattle.packet_spec.specs.Packets.{packet_fault};
 
 use crate::bytes::copied;
-use crate::looks::attach_of;
 use agent_spec::Connection;
 use packet_edit::translate_destination;
 use std::alloc::Global;
@@ -43,8 +42,11 @@ pub(crate) fn hand(
     let bytes = handed_frame(alloc, c, packet)?;
     let machine = c.machine;
     let act = Items::from_vec(copied(alloc, &bytes[1..])?);
-    step.act(Act::Hand { machine, bytes: act })?;
-    let Some(to) = attach_of(cfg, machine) else {
+    step.act(Act::Hand {
+        machine,
+        bytes: act,
+    })?;
+    let Some(to) = cfg.attach_of(machine) else {
         return Ok(());
     };
     let bytes = Items::from_vec(bytes);

@@ -1,11 +1,16 @@
 ghost use Rattle.std.specs.Prelude.{◌≡◌, ◌≤◌, ◌<◌, ◌++◌, ◌∷◌, [], length, nat_le, None, IfOk, OnOk};
 ghost use Rattle.agent_spec.specs.Packets.{ask_for, enqueued, stays, with_packet};
+ghost use Rattle.agent_spec.specs.Agent.{new_host};
 ghost use Rattle.agent_spec.specs.Answers.{is_ask};
+ghost use Rattle.agent_spec.specs.Clock.{ask_again, is_due, renewed};
+ghost use Rattle.node_spec.specs.Steps.{outgoing, with_sends};
+ghost use Rattle.std.specs.List.{flat_map};
 ghost use Rattle.host_agent.specs.Retries.{with_denials, without_ask};
 ghost use Rattle.host_agent.specs.Seen.{as_is};
 ghost use Rattle.node_spec.specs.Steps.{turned};
 
 use crate::bytes::copied;
+use crate::telling::say_all;
 use agent_spec::Asked;
 use control_msg::Message;
 use hold_queue::HoldQueue;
@@ -74,7 +79,27 @@ fn deny_each(queue: &mut HoldQueue, step: &mut Step) -> Result<(), NoMemory>
     Ok(())
 }
 
+/// Whether the ask is out for so long.
+fn is_due(now: u64, retry: u64, asked: &Asked) -> bool
+    ensures { result ≡ is_due now retry asked.now }
+{
+    now.saturating_sub(asked.at) >= retry
+}
+
 impl Host {
+    /// A machine without packets.
+    pub(crate) fn new(alloc: Global, machine: Ip4) -> Result<Host, NoMemory>
+        ensures { IfOk result (λ h. h ≡ new_host machine) }
+    {
+        let queue = HoldQueue::new(alloc)?;
+        Ok(Host {
+            machine,
+            queue,
+            seq: 0,
+            ask: None,
+        })
+    }
+
     /// Whether the ask with this number is out.
     pub(crate) fn is_asking(&self, seq: u64) -> bool
         ensures { result ≡ is_ask seq self.now.ask }
@@ -184,5 +209,44 @@ impl Host {
             self.ask = None;
         }
         Ok(mem::replace(&mut self.queue, fresh))
+    }
+
+    /// The ask, to all five, where it is out for so long.
+    pub(crate) fn ask_again(
+        &self,
+        alloc: Global,
+        cfg: &Config,
+        step: &mut Step,
+        boot: u64,
+        now: u64,
+        retry: u64,
+    ) -> Result<(), NoMemory>
+        ensures { OnOk result (step.new ≡ with_sends (flat_map (outgoing cfg.now)
+            (ask_again boot now retry self.now.machine self.now.ask)) step.old) }
+    {
+        let Some(asked) = self.ask else {
+            return Ok(());
+        };
+        if !is_due(now, retry, &asked) {
+            return Ok(());
+        }
+        let ask = Message::Ask {
+            boot,
+            machine: self.machine,
+            seq: asked.seq,
+        };
+        say_all(alloc, cfg, step, &ask)?;
+        Ok(())
+    }
+
+    /// Its time is renewed where it was said again.
+    pub(crate) fn renew(&mut self, now: u64, retry: u64)
+        ensures { self.new ≡ renewed now retry self.old }
+    {
+        if let Some(asked) = self.ask {
+            if is_due(now, retry, &asked) {
+                self.ask = Some(Asked { at: now, ..asked });
+            }
+        }
     }
 }

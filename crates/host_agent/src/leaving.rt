@@ -123,7 +123,7 @@ fn leave_to_peer(
     requires { packet_fault packet.now ≡ None }
     ensures { IfOk result (λ left. (step.new, left)
         ≡ sent_or_dropped cfg.now step.old
-          (to_peer cfg.now c.now peer (leaving c.now packet.now) (wrap_fault 0 (leaving c.now packet.now)))) }
+        (to_peer cfg.now c.now peer (leaving c.now packet.now) (wrap_fault 0 (leaving c.now packet.now)))) }
 {
     let mut bytes = peer_frame(alloc, c, packet)?;
     match wrap_frame(&mut bytes, c.machine, peer) {

@@ -4,17 +4,22 @@
 mod agent;
 mod answers;
 mod bytes;
+mod clock;
+mod grant;
 mod handing;
 mod hearing;
-mod notes;
 mod host;
+mod leavers;
 mod leaving;
 mod looks;
 mod machine;
-mod grant;
+mod notes;
+mod recover;
+mod table;
+mod telling;
 mod traffic;
 mod trying;
 mod using;
+mod wrapped;
 
 pub use agent::Agent;
-pub use host::Host;

@@ -1,27 +1,48 @@
-// Look-ups of the configuration.
-ghost use Rattle.std.specs.Prelude.{◌≡◌};
-ghost use Rattle.vip_config.specs.Serving.{attach_of, attaches_of, has_snat, is_snat, member_at, snat_vip};
+// The endpoint's machine that a packet is for.
+ghost use Rattle.std.specs.Prelude.{◌≡◌, Some, find, option_copied};
+ghost use Rattle.vip_config.specs.Serving.{member_at, member_in, serves};
 
-use vip_config::{Config, VipConf};
-use wire_core::Ip4;
+use config_text::{Endpoint, Member};
+use vip_config::Config;
+use wire_core::{FlowKey, Ip4};
 
-fn is_snat(machine: Ip4, vip: &VipConf) -> bool
-    ensures { result ≡ is_snat machine vip.now }
+/// Whether packets with this key are for the endpoint.
+fn serves(key: &FlowKey, endpoint: &Endpoint) -> bool
+    ensures { result ≡ serves key.now endpoint.now }
 {
-    vip.snat.as_slice().iter().any(|address| *address == machine)
+    endpoint.proto == key.proto && endpoint.port == key.dport
 }
 
-/// The VIP from which the machine's connections leave.
-#[tactic(auto, unfolding(vip_config::specs::Serving::snat_vip))]
-pub(crate) fn snat_vip(cfg: &Config, machine: Ip4) -> Option<Ip4>
-    ensures { result ≡ snat_vip cfg.now.vips machine }
+/// The machine among those that serve an endpoint.
+fn member_in(machine: Ip4, endpoint: &Endpoint) -> Option<Member>
+    ensures { result ≡ member_in machine (Some endpoint.now) }
 {
-    cfg.vips().iter().find(|vip| is_snat(machine, vip)).map(|vip| vip.address)
+    endpoint
+        .machines
+        .as_slice()
+        .iter()
+        .copied()
+        .find(|member| member.address == machine)
 }
 
-/// Whether the machine's connections leave from the VIP with this address.
-pub(crate) fn has_snat(cfg: &Config, vip: Ip4, machine: Ip4) -> bool
-    ensures { result ≡ has_snat cfg.now.vips vip machine }
+/// The first of these endpoints that packets with this key are for.
+fn endpoint_in<'a>(endpoints: &'a [Endpoint], key: &FlowKey) -> Option<&'a Endpoint>
+    ensures { option_copied result ≡ find (serves key.now) endpoints.now }
 {
-    cfg.vips().iter().any(|v| v.address == vip && is_snat(machine, v))
+    endpoints.iter().find(|endpoint| serves(key, endpoint))
+}
+
+/// The machine as one that serves the endpoint that packets with this key are for. Looks at each VIP, and at each endpoint
+/// of the key's destination.
+pub(crate) fn member_at(cfg: &Config, key: &FlowKey, machine: Ip4) -> Option<Member>
+    ensures { result ≡ member_at cfg.now.vips key.now machine }
+{
+    for vip in cfg.vips() {
+        if vip.address == key.dst {
+            if let Some(endpoint) = endpoint_in(vip.endpoints.as_slice(), key) {
+                return member_in(machine, endpoint);
+            }
+        }
+    }
+    None
 }

@@ -6,9 +6,7 @@ ghost use Rattle.agent_spec.specs.Ranges.{first_unused, ports_of};
 ghost use Rattle.host_agent.specs.Seen.{as_is};
 ghost use Rattle.node_spec.specs.Steps.{tried};
 ghost use Rattle.packet_spec.specs.Packets.{key_of, packet_fault};
-ghost use Rattle.vip_config.specs.Serving.{snat_vip};
 
-use crate::looks::snat_vip;
 use crate::traffic::Traffic;
 use crate::using::{use_conn, use_inbound};
 use agent_spec::Connection;
@@ -54,7 +52,7 @@ fn open_at(
     requires room { nat_le most (length traffic.old.conns) ≡ false }
     requires unused { chosen
         ≡ first_unused (is_used traffic.old.conns (key_of packet.now) vip)
-          (ports_of traffic.old.ranges.held (key_of packet.now).src) }
+        (ports_of traffic.old.ranges.held (key_of packet.now).src) }
     ensures { IfOk result (λ left. (traffic.new, (step.new, left))
         ≡ tried as_is cfg.now step.old traffic.old (with_port cfg.now traffic.old vip packet.now chosen)) }
 {
@@ -108,11 +106,11 @@ fn by_inbound(
     requires private { by_private (key_of packet.now) traffic.old.conns ≡ None }
     ensures { IfOk result (λ left. (traffic.new, (step.new, left))
         ≡ tried as_is cfg.now step.old traffic.old
-          (by_inbound cfg.now traffic.old packet.now (by_private (key_of packet.now) traffic.old.inbound))) }
+        (by_inbound cfg.now traffic.old packet.now (by_private (key_of packet.now) traffic.old.inbound))) }
 {
     let key = packet.key();
     let Some(c) = traffic.inbound.find_private(&key) else {
-        let vip = snat_vip(cfg, key.src);
+        let vip = cfg.snat_vip(key.src);
         return new_conn(alloc, cfg, traffic, step, vip, packet);
     };
     use_inbound(alloc, cfg, traffic, step, &c, packet)?;

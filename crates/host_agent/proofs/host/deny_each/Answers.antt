@@ -7,7 +7,7 @@ loop-packet-smaller c =
     let first : Some c.in-Some.packet.items ≡ slice_get c.loop-packet.queue 0 = search rules in
     let left : c.take.new.self ≡ drop 1 c.loop-packet.queue = search rules in
     let are : c.loop-packet.queue ≡ c.in-Some.packet.items ∷ c.take.new.self =
-      first_is c.loop-packet.queue c.in-Some.packet.items first ∙ ap (λ xs. c.in-Some.packet.items ∷ xs) (sym left) in
+    first_is c.loop-packet.queue c.in-Some.packet.items first ∙ ap (λ xs. c.in-Some.packet.items ∷ xs) (sym left) in
     let len : length c.loop-packet.queue ≡ suc (length c.take.new.self) = ap length are in
     let smaller : length c.take.new.self < length c.loop-packet.queue = omega arith in
     smaller

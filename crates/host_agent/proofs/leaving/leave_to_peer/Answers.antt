@@ -12,6 +12,6 @@ returns-in_ok-to_agent_of-in-Ok c =
     let p : List ℕ = leaving c.args.c.now c.args.packet.now in
     let clear : wrap_fault 0 (leaving c.args.c.now c.args.packet.now) ≡ None = search rules in
     let items : c.wrap_frame.new.bytes.items
-        ≡ datagram (Carries (wrapped 0 c.args.c.now.machine c.args.peer (leaving c.args.c.now c.args.packet.now))) = search rules in
+    ≡ datagram (Carries (wrapped 0 c.args.c.now.machine c.args.peer (leaving c.args.c.now c.args.packet.now))) = search rules in
     rw clear (ap (λ (s : Step). (s, true))
     (c.in_ok-to_agent_of-in-Ok.ensures (wrapped 0 c.args.c.now.machine c.args.peer (leaving c.args.c.now c.args.packet.now)) items))

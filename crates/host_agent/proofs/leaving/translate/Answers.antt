@@ -9,6 +9,6 @@ returns-clause-whole c = λ w.
     let len : length c.translate_source.new.p ≡ length c.args.packet.now = search rules in
     let few = w.most in
     let same : whole c.translate_source.new.p ≡ c.translate_source.new.p =
-      c.translate_source.ensures.front ∙ translated_whole c.args.c.now.vip c.args.c.now.port c.args.packet.now w
-      ∙ sym c.translate_source.ensures.packet in
+    c.translate_source.ensures.front ∙ translated_whole c.args.c.now.vip c.args.c.now.port c.args.packet.now w
+    ∙ sym c.translate_source.ensures.packet in
     whole_again c.translate_source.new.p c.translate_source.ensures.fine same (omega arith)

@@ -12,8 +12,8 @@ unfolding machine_packet
 returns-then-left-clause-turn c =
     let own : same_ip (key_of c.args.packet.now).src c.args.host.now.machine ≡ true = search rules in
     let tries : (c.try_packet.new.traffic, (c.try_packet.new.step, c.in_ok-left.left))
-        ≡ tried as_is c.args.cfg.now c.args.step.now c.args.traffic.now
-          (try_packet c.args.cfg.now c.args.traffic.now c.args.packet.now) = search rules in
+    ≡ tried as_is c.args.cfg.now c.args.step.now c.args.traffic.now
+    (try_packet c.args.cfg.now c.args.traffic.now c.args.packet.now) = search rules in
     rw own (left_packet c.args.cfg.now c.args.origin.now.boot c.args.origin.now.hint c.args.step.now c.try_packet.new.step
     c.args.traffic.now c.try_packet.new.traffic c.args.host.now c.args.packet.now
     (try_packet c.args.cfg.now c.args.traffic.now c.args.packet.now) c.in_ok-left.left tries c.if-left.true)
@@ -23,11 +23,11 @@ unfolding machine_packet
 returns-clause-turn c =
     let own : same_ip (key_of c.args.packet.now).src c.args.host.now.machine ≡ true = search rules in
     let tries : (c.try_packet.new.traffic, (c.try_packet.new.step, c.in_ok-left.left))
-        ≡ tried as_is c.args.cfg.now c.args.step.now c.args.traffic.now
-          (try_packet c.args.cfg.now c.args.traffic.now c.args.packet.now) = search rules in
+    ≡ tried as_is c.args.cfg.now c.args.step.now c.args.traffic.now
+    (try_packet c.args.cfg.now c.args.traffic.now c.args.packet.now) = search rules in
     let holds : (c.hold.new.self, c.hold.new.step)
-        ≡ turned as_is c.args.cfg.now c.try_packet.new.step
-          (stays c.args.origin.now.boot c.args.origin.now.hint c.try_packet.new.traffic.time c.args.host.now c.args.packet.now) = search rules in
+    ≡ turned as_is c.args.cfg.now c.try_packet.new.step
+    (stays c.args.origin.now.boot c.args.origin.now.hint c.try_packet.new.traffic.time c.args.host.now c.args.packet.now) = search rules in
     rw own (stayed_packet c.args.cfg.now c.args.origin.now.boot c.args.origin.now.hint c.args.step.now c.try_packet.new.step
     c.hold.new.step c.args.traffic.now c.try_packet.new.traffic c.args.host.now c.hold.new.self c.args.packet.now
     (try_packet c.args.cfg.now c.args.traffic.now c.args.packet.now) c.in_ok-left.left tries c.if-left.false holds)

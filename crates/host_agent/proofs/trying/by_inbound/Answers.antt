@@ -11,6 +11,6 @@ pub returns : goal.returns
 returns c =
     let found : by_private (key_of c.args.packet.now) c.args.traffic.now.inbound ≡ Some c.in-Some.c = search rules in
     let leaves : (c.use_inbound.new.traffic, c.use_inbound.new.step)
-        ≡ turned as_is c.args.cfg.now c.args.step.now (use_inbound c.args.cfg.now c.args.traffic.now c.in-Some.c c.args.packet.now) = search rules in
+    ≡ turned as_is c.args.cfg.now c.args.step.now (use_inbound c.args.cfg.now c.args.traffic.now c.in-Some.c c.args.packet.now) = search rules in
     rw found (some_tried as_is c.args.cfg.now c.args.step.now c.use_inbound.new.step c.args.traffic.now c.use_inbound.new.traffic
     (use_inbound c.args.cfg.now c.args.traffic.now c.in-Some.c c.args.packet.now) leaves)

@@ -13,6 +13,6 @@ unfolding try_packet
 returns c =
     let found : by_private (key_of c.args.packet.now) c.args.traffic.now.conns ≡ Some c.in-Some.c = search rules in
     let leaves : (c.use_conn.new.traffic, c.use_conn.new.step)
-        ≡ turned as_is c.args.cfg.now c.args.step.now (use_conn c.args.cfg.now c.args.traffic.now c.in-Some.c c.args.packet.now) = search rules in
+    ≡ turned as_is c.args.cfg.now c.args.step.now (use_conn c.args.cfg.now c.args.traffic.now c.in-Some.c c.args.packet.now) = search rules in
     rw found (some_tried as_is c.args.cfg.now c.args.step.now c.use_conn.new.step c.args.traffic.now c.use_conn.new.traffic
     (use_conn c.args.cfg.now c.args.traffic.now c.in-Some.c c.args.packet.now) leaves)

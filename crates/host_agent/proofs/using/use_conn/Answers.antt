@@ -12,10 +12,10 @@ unfolding use_conn
 returns-in_ok-close_after c =
     let touches : c.touch.new.self ≡ touched c.args.traffic.now c.args.c.now = search rules in
     let leaves : (c.leave.new.step, c.in_ok-left.left)
-        ≡ sent_or_dropped c.args.cfg.now c.args.step.now
-          (leaves_by c.args.cfg.now c.args.c.now (leaving c.args.c.now c.args.packet.now) c.args.c.now.peer) = search rules in
+    ≡ sent_or_dropped c.args.cfg.now c.args.step.now
+    (leaves_by c.args.cfg.now c.args.c.now (leaving c.args.c.now c.args.packet.now) c.args.c.now.peer) = search rules in
     let closing : (c.close_after.new.traffic, c.close_after.new.step)
-        ≡ turned as_is c.args.cfg.now c.leave.new.step (closes (has_rst c.args.packet.now) c.args.c.now c.touch.new.self) = search rules in
+    ≡ turned as_is c.args.cfg.now c.leave.new.step (closes (has_rst c.args.packet.now) c.args.c.now c.touch.new.self) = search rules in
     left_turned c.args.cfg.now c.args.step.now c.leave.new.step (touched c.args.traffic.now c.args.c.now) c.args.c.now
     (leaving c.args.c.now c.args.packet.now) (closes (has_rst c.args.packet.now) c.args.c.now) c.args.c.now.peer
     c.in_ok-left.left (c.close_after.new.traffic, c.close_after.new.step) leaves c.if-left.true (rw touches at closing)
@@ -25,8 +25,8 @@ unfolding use_conn
 returns-else-left c =
     let touches : c.touch.new.self ≡ touched c.args.traffic.now c.args.c.now = search rules in
     let leaves : (c.leave.new.step, c.in_ok-left.left)
-        ≡ sent_or_dropped c.args.cfg.now c.args.step.now
-          (leaves_by c.args.cfg.now c.args.c.now (leaving c.args.c.now c.args.packet.now) c.args.c.now.peer) = search rules in
+    ≡ sent_or_dropped c.args.cfg.now c.args.step.now
+    (leaves_by c.args.cfg.now c.args.c.now (leaving c.args.c.now c.args.packet.now) c.args.c.now.peer) = search rules in
     rw touches (dropped_turned c.args.cfg.now c.args.step.now c.leave.new.step (touched c.args.traffic.now c.args.c.now) c.args.c.now
     (leaving c.args.c.now c.args.packet.now) (closes (has_rst c.args.packet.now) c.args.c.now) c.args.c.now.peer
     c.in_ok-left.left leaves c.if-left.false)

@@ -8,7 +8,7 @@ use Rattle.host_agent.proofs.traffic.Traffic.returned.Goals as goal
 pub returns-clause-no : goal.returns-clause-no
 returns-clause-no c = λ e.
     let left : c.returned.new.self.ranges ≡ c.self.inside.ports.ranges =
-      c.returned.ensures.left ∙ not_returning c.args.n c.self.inside.ports.ranges (sym c.returned.ensures.was ∙ e) in
+    c.returned.ensures.left ∙ not_returning c.args.n c.self.inside.ports.ranges (sym c.returned.ensures.was ∙ e) in
     ap (λ (r : Ranges). record {
       ranges = r;
       conns = c.returned.new.self.conns;

@@ -1,0 +1,50 @@
+-- Members that stand once.
+use Rattle.std.proofs.Common.{◌≡◌, ◌∙◌, ℕ, zero, suc, ◌⊎◌, inl, inr, Bool, true, false, ◌||◌, cond, List, [], ◌∷◌, ◌++◌, map, slice_get, Option, Some, refl, sym, ap, subst}
+use Rattle.std.specs.List.{flat_map, list_any}
+use Rattle.wire_core.specs.declared.address.Ip4.{Ip4}
+use Rattle.wire_core.specs.Members.{In}
+use Rattle.wire_core.specs.Same.{same_ip}
+use Rattle.wire_core.proofs.SameLaws.{ip_is}
+use Rattle.vip_config.specs.Rules.{Once}
+
+in_left : {X : Type 0} (x : X) (xs ys : List X) → In x xs → In x (xs ++ ys)
+in_left x [] ys i = absurd i
+in_left x (z ∷ xs) ys (inl e) = inl e
+in_left x (z ∷ xs) ys (inr i) = inr (in_left x xs ys i)
+
+in_right : {X : Type 0} (x : X) (xs ys : List X) → In x ys → In x (xs ++ ys)
+in_right x [] ys i = i
+in_right x (z ∷ xs) ys i = inr (in_right x xs ys i)
+
+once_left : {X : Type 0} (xs ys : List X) → Once (xs ++ ys) → Once xs
+once_left [] ys o = tt
+once_left (x ∷ xs) ys o = ((λ i. o.0 (in_left x xs ys i)), once_left xs ys o.1)
+
+once_right : {X : Type 0} (xs ys : List X) → Once (xs ++ ys) → Once ys
+once_right [] ys o = o
+once_right (x ∷ xs) ys o = once_right xs ys o.1
+
+-- each part of lists that are laid one behind the other
+pub once_part : {A X : Type 0} (f : A → List X) (as : List A) (i : ℕ) (a : A)
+    → slice_get as i ≡ Some a → Once (flat_map f as) → Once (f a)
+once_part f [] i a e o = absurd (cc)
+once_part f (b ∷ as) zero a e o = subst (λ z. Once (f z)) (same b a e) (once_left (f b) (flat_map f as) o)
+  where
+    same : (x y : A) → Some x ≡ Some y → x ≡ y
+    same x y e = cc
+once_part f (b ∷ as) (suc i) a e o = once_part f as i a e (once_right (f b) (flat_map f as) o)
+
+-- the one between
+pub once_apart : {X : Type 0} (xs ys : List X) (x : X) → Once (xs ++ x ∷ ys) → ¬ (In x xs)
+once_apart [] ys x o i = i
+once_apart (z ∷ xs) ys x o (inl e) = o.0 (in_right z xs (x ∷ ys) (inl (sym e)))
+once_apart (z ∷ xs) ys x o (inr i) = once_apart xs ys x o.1 i
+
+-- no address among them is this one
+pub none_same : (a : Ip4) (xs : List Ip4) → ¬ (In a xs) → list_any (λ x. same_ip a x) xs ≡ false
+none_same a [] apart = refl
+none_same a (x ∷ xs) apart = by (same_ip a x) refl (none_same a xs (λ i. apart (inr i)))
+  where
+    by : (b : Bool) → same_ip a x ≡ b → list_any (λ y. same_ip a y) xs ≡ false → b || list_any (λ y. same_ip a y) xs ≡ false
+    by true e rest = absurd (apart (inl (sym (ip_is a x e))))
+    by false e rest = rest
