@@ -21,11 +21,11 @@ use Rattle.host_agent.specs.Idle.{closed_each, closings, drops, over, ports_in, 
 use Rattle.host_agent.specs.Seen.{as_is}
 use Rattle.host_agent.proofs.Tries.{both_turned}
 
-no_acts : (o : Step) → with_acts [] o ≡ o
+pub no_acts : (o : Step) → with_acts [] o ≡ o
 no_acts o = rw (append-nil o.acts) refl
 
-more_acts : (a : Act) (as : List Act) (o : Step) → with_acts as (with_act a o) ≡ with_acts (a ∷ as) o
-more_acts a as o = rw (append_assoc o.acts (a ∷ []) as) refl
+more_acts : (a : Act) (rest : List Act) (o : Step) → with_acts rest (with_act a o) ≡ with_acts (a ∷ rest) o
+more_acts a rest o = rw (append_assoc o.acts (a ∷ []) rest) refl
 
 -- none is found, so none passes
 pub none_pass : {X : Type 0} (p : X → Bool) (xs : List X) → find p xs ≡ None → filter p xs ≡ []

@@ -25,14 +25,14 @@ once_right [] ys o = o
 once_right (x ∷ xs) ys o = once_right xs ys o.1
 
 -- each part of lists that are laid one behind the other
-pub once_part : {A X : Type 0} (f : A → List X) (as : List A) (i : ℕ) (a : A)
-    → slice_get as i ≡ Some a → Once (flat_map f as) → Once (f a)
+pub once_part : {A X : Type 0} (f : A → List X) (parts : List A) (i : ℕ) (a : A)
+    → slice_get parts i ≡ Some a → Once (flat_map f parts) → Once (f a)
 once_part f [] i a e o = absurd (cc)
-once_part f (b ∷ as) zero a e o = subst (λ z. Once (f z)) (same b a e) (once_left (f b) (flat_map f as) o)
+once_part f (b ∷ parts) zero a e o = subst (λ z. Once (f z)) (same b a e) (once_left (f b) (flat_map f parts) o)
   where
     same : (x y : A) → Some x ≡ Some y → x ≡ y
     same x y e = cc
-once_part f (b ∷ as) (suc i) a e o = once_part f as i a e (once_right (f b) (flat_map f as) o)
+once_part f (b ∷ parts) (suc i) a e o = once_part f parts i a e (once_right (f b) (flat_map f parts) o)
 
 -- the one between
 pub once_apart : {X : Type 0} (xs ys : List X) (x : X) → Once (xs ++ x ∷ ys) → ¬ (In x xs)
@@ -48,3 +48,8 @@ none_same a (x ∷ xs) apart = by (same_ip a x) refl (none_same a xs (λ i. apar
     by : (b : Bool) → same_ip a x ≡ b → list_any (λ y. same_ip a y) xs ≡ false → b || list_any (λ y. same_ip a y) xs ≡ false
     by true e rest = absurd (apart (inl (sym (ip_is a x e))))
     by false e rest = rest
+
+-- none of them is the next one, so it goes last
+pub inserted : (xs ys : List Ip4) (x : Ip4) (total : List Ip4) → xs ++ x ∷ ys ≡ total → Once total
+    → list_any (λ y. same_ip x y) xs ≡ false
+inserted xs ys x total e once = none_same x xs (once_apart xs ys x (subst (λ zs. Once zs) (sym e) once))

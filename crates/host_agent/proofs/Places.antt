@@ -12,9 +12,9 @@ use Rattle.wire_core.specs.Members.{In}
 use Rattle.wire_core.specs.Same.{same_ip}
 use Rattle.vip_config.specs.Rules.{Once}
 use Rattle.agent_spec.specs.Agent.{Host, host_of, put_host}
-use Rattle.wire_core.specs.declared.rules.LeaseRules.{LeaseRules}
-use Rattle.vip_config.specs.declared.parts.ConfigParts.{ConfigParts}
-use Rattle.host_agent.specs.Hosts.{IsKept, addresses}
+use Rattle.host_agent.specs.Hosts.{IsKept, addresses, at_place, hosts_of}
+use Rattle.config_text.specs.declared.agents.Attach.{Attach}
+use Rattle.agent_spec.specs.Clock.{renewed}
 
 -- ---- found by its place
 
@@ -110,13 +110,11 @@ put_same h (x ∷ xs) = by (same_ip x.machine h.machine) refl (put_same h xs)
 -- ---- kept
 
 -- with a machine's new state they are kept as they were
-pub kept_at : (config : ConfigParts) (rules : LeaseRules) (hs : List Host) (places : List Ip4) (i : ℕ) (old h : Host)
-    → IsKept config rules hs places → slice_get hs i ≡ Some old → old.machine ≡ h.machine
-    → IsKept config rules (set hs i h) places
-kept_at config rules hs places i old h kept e is =
+pub kept_at : (hs : List Host) (places : List Ip4) (i : ℕ) (old h : Host)
+    → IsKept hs places → slice_get hs i ≡ Some old → old.machine ≡ h.machine → IsKept (set hs i h) places
+kept_at hs places i old h kept e is =
     let same : addresses (set hs i h) ≡ addresses hs = ap addresses (put_at hs i old h e is kept.apart) ∙ put_same h hs in
     record {
-      rules_are = kept.rules_are;
       places_are = kept.places_are ∙ sym same;
       apart = subst (λ (ms : List Ip4). Once ms) (sym same) kept.apart;
     }
@@ -150,3 +148,38 @@ pub place_of_machine : (m : Ip4) (hs : List Host)
 place_of_machine m hs =
     place_mapped (λ (a : Ip4). same_ip m a) (λ (h : Host). h.machine) hs
     ∙ ap (λ n. cond (nat_lt n (length hs)) (Some n) None) (swapped_place m hs)
+
+-- the machine at the place of its address
+pub placed : (m : Ip4) (hs : List Host) (place : Option ℕ)
+    → place ≡ position (λ (a : Ip4). same_ip m a) (addresses hs) → at_place hs place ≡ host_of hs m
+placed m hs None e = sym (none_at (λ (h : Host). same_ip h.machine m) hs (sym (e ∙ place_of_machine m hs)))
+placed m hs (Some i) e = sym (found_at (λ (h : Host). same_ip h.machine m) hs i (sym (e ∙ place_of_machine m hs)))
+
+pub placed_within : (m : Ip4) (hs : List Host) → length (addresses hs) ≡ length hs
+placed_within m hs = as_long (λ (h : Host). h.machine) hs
+
+-- renewing an ask moves no machine
+pub renewed_kept : (now retry : ℕ) (hs : List Host) (places : List Ip4)
+    → IsKept hs places → IsKept (map (renewed now retry) hs) places
+renewed_kept now retry hs places kept =
+    let same : addresses (map (renewed now retry) hs) ≡ addresses hs = renewed_same hs in
+    record {
+      places_are = kept.places_are ∙ sym same;
+      apart = subst (λ (ms : List Ip4). Once ms) (sym same) kept.apart;
+    }
+  where
+    renewed_same : (xs : List Host) → addresses (map (renewed now retry) xs) ≡ addresses xs
+    renewed_same [] = refl
+    renewed_same (x ∷ xs) = ap (λ ms. x.machine ∷ ms) (renewed_same xs)
+
+-- hosts as configured
+pub configured : (machines : List Attach) → Once (map (λ (m : Attach). m.address) machines)
+    → IsKept (hosts_of machines) (map (λ (m : Attach). m.address) machines)
+configured machines once = record {
+  places_are = sym (same machines);
+  apart = subst (λ (ms : List Ip4). Once ms) (sym (same machines)) once;
+}
+  where
+    same : (xs : List Attach) → addresses (hosts_of xs) ≡ map (λ (m : Attach). m.address) xs
+    same [] = refl
+    same (x ∷ xs) = ap (λ ms. x.address ∷ ms) (same xs)

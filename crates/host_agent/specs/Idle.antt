@@ -33,11 +33,6 @@ ports_in t = record { ranges = t.ranges; conns = t.conns }
 abbrev pub over : Traffic → PortsState → Traffic
 over t p = record t { ranges = p.ranges; conns = p.conns }
 
--- the machine at a place
-abbrev pub at_place : List Host → Option ℕ → Option Host
-at_place hosts None = None
-at_place hosts (Some i) = slice_get hosts i
-
 -- without the inbound entries that are idle for so long
 abbrev pub without_idle : ℕ → Traffic → Traffic
 without_idle idle t = record t { inbound = filter (λ x. not (is_idle t.time idle x)) t.inbound }

@@ -1,12 +1,9 @@
-ghost use Rattle.std.specs.Prelude.{◌≡◌, ◌<◌, length, position, IfSome};
-ghost use Rattle.wire_core.specs.Same.{same_ip};
-
-use crate::host::{Host, Origin};
+use crate::host::Origin;
+use crate::machines::Machines;
 use crate::traffic::Traffic;
-use indexmap::IndexSet;
 use std::marker::Model;
 use vip_config::Config;
-use wire_core::{Ip4, LeaseRules};
+use wire_core::LeaseRules;
 
 /// A host's agent. In contracts it is its configuration and its lists.
 #[derive(Drop)]
@@ -18,16 +15,14 @@ pub struct Agent {
     pub(crate) origin: Origin,
     /// Whether a primary knows this boot.
     pub(crate) known: bool,
-    /// As configured.
-    pub(crate) hosts: Vec<Host>,
-    /// Their addresses, each at its host's place.
-    pub(crate) machines: IndexSet<Ip4>,
+    pub(crate) hosts: Machines,
     pub(crate) traffic: Traffic,
 }
 
 impl Model for Agent {
+    ghost use Rattle.std.specs.Prelude.{◌≡◌};
     ghost use Rattle.host_agent.specs.Seen.{Core};
-    ghost use Rattle.host_agent.specs.Hosts.{IsKept};
+    ghost use Rattle.vip_config.specs.Leases.{lease_rules_of};
 
     ghost Value = { Core };
 
@@ -38,20 +33,10 @@ impl Model for Agent {
         boot = a.origin.boot;
         known = a.known;
         hint = a.origin.hint;
-        hosts = a.hosts.items;
+        hosts = a.hosts;
         traffic = a.traffic;
       };
     } };
 
-    ghost invariant = { λ a. IsKept a.cfg a.rules a.hosts.items a.machines.keys };
-}
-
-impl Agent {
-    /// The place of a machine of its own.
-    pub(crate) fn place_of(&self, machine: Ip4) -> Option<usize>
-        ensures place { result ≡ position (λ h. same_ip h.machine machine) self.now.lists.hosts }
-        ensures within { IfSome result (λ i. i < length self.now.lists.hosts) }
-    {
-        self.machines.get_index_of(&machine)
-    }
+    ghost invariant = { λ a. a.rules ≡ lease_rules_of a.cfg };
 }

@@ -1,11 +1,11 @@
 // What replicas answer.
-ghost use Rattle.std.specs.Prelude.{◌≡◌, ◌++◌, [], map, length, OnOk, List, ℕ};
-ghost use Rattle.agent_spec.specs.Answers.{is_ask, on_denied, on_grant, on_known, on_returned};
-ghost use Rattle.host_agent.specs.Seen.{with_lists};
+ghost use Rattle.std.specs.Prelude.{◌≡◌, Some, OnOk};
+ghost use Rattle.agent_spec.specs.Answers.{grant_to, on_denied, on_grant, on_known, on_returned, take_grant};
+ghost use Rattle.agent_spec.specs.Agent.{Host, host_of, of_site};
+ghost use Rattle.host_agent.specs.Seen.{site, with_lists};
 ghost use Rattle.node_spec.specs.Steps.{turned};
 
 use crate::agent::Agent;
-use crate::grant::take_grant;
 use crate::notes::drop_for;
 use agent_spec::Granting;
 use std::alloc::Global;
@@ -73,13 +73,11 @@ impl Agent {
         if boot != self.origin.boot {
             return drop_for(step, DropCause::WrongBoot(self.origin.boot));
         }
-        let Some(place) = self.place_of(machine) else {
-            return drop_for(step, DropCause::Late);
-        };
-        if !self.hosts[place].is_asking(seq) {
-            return drop_for(step, DropCause::Late);
+        let out = self.hosts.deny(&self.cfg, step, machine, seq)?;
+        if !out {
+            drop_for(step, DropCause::Late)?;
+            return Ok(());
         }
-        self.hosts[place].refuse(step)?;
         self.origin.hint = from;
         Ok(())
     }
@@ -101,28 +99,70 @@ impl Agent {
         if boot != self.origin.boot {
             return drop_for(step, DropCause::WrongBoot(self.origin.boot));
         }
-        let Some(place) = self.place_of(grant.machine) else {
-            return drop_for(step, DropCause::NotMine);
-        };
-        let machine = self.hosts[place].machine();
-        if !(self.cfg.has_snat(grant.range.vip, machine) && self.rules.leasable(&grant.range)) {
-            return drop_for(step, DropCause::NotMine);
+        self.grant_to(alloc, step, from, grant)
+    }
+
+    /// A Grant in this boot: the machine is its own, and may have the range.
+    #[tactic(auto, using(node_spec::proofs::Turning::drop_turned))]
+    fn grant_to(
+        &mut self,
+        alloc: Global,
+        step: &mut Step,
+        from: u8,
+        grant: &Granted,
+    ) -> Result<(), NoMemory>
+        ensures { OnOk result ((self.new, step.new)
+            ≡ turned (with_lists self.old) self.old.config step.old
+            (grant_to self.old.config self.old.lists from grant.now.seq grant.now.n grant.now.range
+            (host_of self.old.lists.hosts grant.now.machine))) }
+    {
+        let own = self.hosts.is_own(grant.machine);
+        if !own {
+            drop_for(step, DropCause::NotMine)?;
+            return Ok(());
         }
-        match self.traffic.grant(grant.n, &grant.range, machine)? {
-            Granting::Old { kept } => drop_for(step, DropCause::OldGrant(kept)),
+        let may = self.cfg.has_snat(grant.range.vip, grant.machine)
+            && self.rules.leasable(&grant.range);
+        if !may {
+            drop_for(step, DropCause::NotMine)?;
+            return Ok(());
+        }
+        match self.traffic.grant(grant.n, &grant.range, grant.machine)? {
+            Granting::Old { kept } => {
+                drop_for(step, DropCause::OldGrant(kept))?;
+                Ok(())
+            }
             Granting::Held => {
                 self.origin.hint = from;
-                take_grant(
-                    alloc,
-                    &self.cfg,
-                    &self.origin,
-                    &mut self.traffic,
-                    &mut self.hosts[place],
-                    step,
-                    grant.seq,
-                    grant.n,
-                )
+                self.take_range(alloc, step, grant)?;
+                Ok(())
             }
         }
+    }
+
+    /// The range is held from now on, and the machine's held packets leave through it.
+    fn take_range(
+        &mut self,
+        alloc: Global,
+        step: &mut Step,
+        grant: &Granted,
+    ) -> Result<(), NoMemory>
+        ensures { (h : Host) → host_of self.old.lists.hosts grant.now.machine ≡ Some h → OnOk result ((self.new, step.new)
+            ≡ turned (with_lists self.old) self.old.config step.old
+            (of_site self.old.lists
+            (take_grant self.old.config self.old.lists.boot self.old.lists.hint (site self.old.lists.traffic h)
+            grant.now.seq grant.now.n))) }
+    {
+        self.hosts.grant(
+            alloc,
+            &self.cfg,
+            &self.origin,
+            &mut self.traffic,
+            step,
+            grant.machine,
+            grant.seq,
+            grant.n,
+        )?;
+        Ok(())
     }
 }

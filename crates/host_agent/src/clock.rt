@@ -8,7 +8,7 @@ ghost use Rattle.node_spec.specs.Steps.{outgoing, turned, with_sends};
 
 use crate::agent::Agent;
 use crate::leavers::leave_idle;
-use crate::telling::{ask_each, renew_each, return_each, say_all};
+use crate::telling::{ask_each, return_each, say_all};
 use control_msg::Message;
 use std::alloc::Global;
 use wire_core::{NoMemory, Step};
@@ -41,7 +41,7 @@ impl Agent {
             alloc,
             &self.cfg,
             step,
-            &self.hosts,
+            self.hosts.as_slice(),
             self.origin.boot,
             self.traffic.time,
             retry,
@@ -50,7 +50,7 @@ impl Agent {
     }
 
     /// The first of the numbers that are given back, each to all five.
-    #[tactic(auto, unfolding(agent_spec::specs::Clock::returns_again))]
+    #[tactic(auto, using(crate::proofs::Firsts::first_of_all), unfolding(agent_spec::specs::Clock::returns_again))]
     fn say_returns(&self, alloc: Global, step: &mut Step) -> Result<(), NoMemory>
         ensures { OnOk result
             (step.new ≡ with_sends (flat_map (outgoing self.now.config) (returns_again self.now.lists)) step.old) }
@@ -62,6 +62,7 @@ impl Agent {
     }
 
     /// What isn't answered is said again.
+    #[tactic(auto, using(crate::proofs::Ticked::said_turned))]
     fn say_again(&mut self, alloc: Global, step: &mut Step, retry: u64) -> Result<(), NoMemory>
         ensures { OnOk result ((self.new, step.new)
             ≡ turned (with_lists self.old) self.old.config step.old (says_again retry self.old.lists)) }
@@ -69,12 +70,12 @@ impl Agent {
         self.say_up(alloc, step)?;
         self.say_asks(alloc, step, retry)?;
         self.say_returns(alloc, step)?;
-        renew_each(&mut self.hosts, self.traffic.time, retry);
+        self.hosts.renew(self.traffic.time, retry);
         Ok(())
     }
 
     /// A tick: what is idle leaves, and then what is due is said.
-    #[tactic(auto, unfolding(agent_spec::specs::Clock::on_tick))]
+    #[tactic(auto, using(crate::proofs::Ticked::tick_turned))]
     pub(crate) fn on_tick(
         &mut self,
         alloc: Global,
@@ -86,13 +87,7 @@ impl Agent {
     {
         let timers = self.cfg.timers();
         self.traffic.advance(now);
-        leave_idle(
-            &self.cfg,
-            &mut self.traffic,
-            &self.hosts,
-            &self.machines,
-            step,
-        )?;
+        leave_idle(&self.cfg, &mut self.traffic, &self.hosts, step)?;
         self.say_again(alloc, step, timers.ask_retry)?;
         Ok(())
     }

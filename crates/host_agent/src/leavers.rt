@@ -1,21 +1,17 @@
 // What is idle leaves.
-ghost use Rattle.std.specs.Prelude.{◌≡◌, filter, position, OnOk};
-ghost use Rattle.agent_spec.specs.Clock.{close_idle, give_back_spare, holds_packet, idle_leave};
+ghost use Rattle.std.specs.Prelude.{◌≡◌, filter, OnOk};
+ghost use Rattle.agent_spec.specs.Clock.{close_idle, give_back_spare, idle_leave};
 ghost use Rattle.agent_spec.specs.Connections.{is_idle};
-ghost use Rattle.host_agent.specs.Hosts.{addresses};
-ghost use Rattle.host_agent.specs.Idle.{at_place, closed_each, closings, drops, with_acts, without_idle};
+ghost use Rattle.host_agent.specs.Idle.{closed_each, closings, drops, with_acts, without_idle};
 ghost use Rattle.host_agent.specs.Seen.{as_is};
 ghost use Rattle.node_spec.specs.Steps.{turned};
-ghost use Rattle.wire_core.specs.Same.{same_ip};
-ghost use Rattle.wire_core.specs.declared.address.Ip4 as ips;
 
-use crate::host::Host;
+use crate::machines::Machines;
 use crate::traffic::Traffic;
 use agent_flows::conn_of;
 use agent_ports::Ports;
-use indexmap::IndexSet;
 use vip_config::Config;
-use wire_core::{Act, Ip4, NoMemory, Step};
+use wire_core::{Act, NoMemory, Step};
 
 /// Closes the connections that are idle for so long, first opened first.
 fn close_each(ports: &mut Ports, step: &mut Step, now: u64, idle: u64) -> Result<(), NoMemory>
@@ -40,64 +36,47 @@ fn tell_drops(step: &mut Step, numbers: &[u64]) -> Result<(), NoMemory>
     Ok(())
 }
 
-/// Whether the machine is an own one and holds a packet.
-fn holds_packet(hosts: &[Host], machines: &IndexSet<Ip4>, machine: Ip4) -> bool
-    ensures { result ≡ holds_packet (at_place hosts.now (position (λ (a : ips.Ip4). same_ip machine a) machines.now.keys)) }
-{
-    let Some(place) = machines.get_index_of(&machine) else {
-        return false;
-    };
-    match hosts.get(place) {
-        Some(host) => host.holds_packet(),
-        None => false,
-    }
-}
-
 /// Ranges without a connection for so long, whose machines hold no packet, are given back by number.
 fn give_back_spare(
     cfg: &Config,
     traffic: &mut Traffic,
-    hosts: &[Host],
-    machines: &IndexSet<Ip4>,
+    hosts: &Machines,
     step: &mut Step,
     idle: u64,
 ) -> Result<(), NoMemory>
-    requires { machines.now.keys ≡ addresses hosts.now }
     ensures { OnOk result ((traffic.new, step.new)
         ≡ turned as_is cfg.now step.old (give_back_spare hosts.now idle traffic.old)) }
 {
     let now = traffic.time;
-    let given = traffic.ports.give_back_idle(
-        now,
-        idle,
-        |machine| holds_packet(hosts, machines, machine),
-    )?;
+    let given = traffic
+        .ports
+        .give_back_idle(now, idle, |machine| hosts.holds_packet(machine))?;
     tell_drops(step, given.as_slice())?;
     Ok(())
 }
 
 /// What is idle leaves: connections, inbound entries, ranges.
+#[tactic(auto, using(crate::proofs::Ticked::leave_turned))]
 pub(crate) fn leave_idle(
     cfg: &Config,
     traffic: &mut Traffic,
-    hosts: &[Host],
-    machines: &IndexSet<Ip4>,
+    hosts: &Machines,
     step: &mut Step,
 ) -> Result<(), NoMemory>
-    requires { machines.now.keys ≡ addresses hosts.now }
     ensures { OnOk result ((traffic.new, step.new)
         ≡ turned as_is cfg.now step.old (idle_leave cfg.now hosts.now traffic.old)) }
 {
     let timers = cfg.timers();
     traffic.close_idle(cfg, step, timers.flow_idle)?;
     traffic.forget_inbound(timers.flow_idle);
-    give_back_spare(cfg, traffic, hosts, machines, step, timers.range_idle)?;
+    give_back_spare(cfg, traffic, hosts, step, timers.range_idle)?;
     Ok(())
 }
 
 impl Traffic {
     /// Idle connections close, first opened first. Looks at each connection at most once, and at none while none can be
     /// idle.
+    #[tactic(auto, using(crate::proofs::Ticked::idle_turned))]
     fn close_idle(&mut self, cfg: &Config, step: &mut Step, idle: u64) -> Result<(), NoMemory>
         ensures { OnOk result ((self.new, step.new) ≡ turned as_is cfg.now step.old (close_idle idle self.old)) }
     {

@@ -13,6 +13,7 @@ mod leavers;
 mod leaving;
 mod looks;
 mod machine;
+mod machines;
 mod notes;
 mod recover;
 mod table;

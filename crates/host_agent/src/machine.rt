@@ -89,17 +89,19 @@ impl Agent {
             ≡ turned (with_lists self.old) self.old.config step.old
             (from_machine self.old.config self.old.lists machine bytes.now)) }
     {
-        let Some(place) = self.place_of(machine) else {
-            return drop_for(step, DropCause::NotMine);
-        };
-        read_machine_packet(
+        let own = self.hosts.packet(
             alloc,
             &self.cfg,
             &self.origin,
             &mut self.traffic,
-            &mut self.hosts[place],
             step,
+            machine,
             bytes,
-        )
+        )?;
+        if own {
+            return Ok(());
+        }
+        drop_for(step, DropCause::NotMine)?;
+        Ok(())
     }
 }

@@ -1,21 +1,21 @@
 // An agent as it opens.
-ghost use Rattle.std.specs.Prelude.{◌≡◌, fold, map, IfOk};
-ghost use Rattle.agent_spec.specs.Agent.{new_host, new_hosts, opened_agent};
+ghost use Rattle.std.specs.Prelude.{◌≡◌, fold, map, slice_get, IfOk};
+ghost use Rattle.agent_spec.specs.Agent.{new_hosts, opened_agent};
 ghost use Rattle.config_text.specs.declared.agents.Attach.{Attach as Attached};
 ghost use Rattle.host_agent.specs.Entries.{entries_of, entry_in};
-ghost use Rattle.host_agent.specs.Hosts.{addresses};
+ghost use Rattle.host_agent.specs.Hosts.{hosts_of};
 ghost use Rattle.node_spec.specs.Boots.{boot_after, boot_of};
-ghost use Rattle.vip_config.specs.Rules.{Once};
+ghost use Rattle.vip_config.specs.Rules.{Once, all_machines};
 ghost use Rattle.wire_core.specs.Entries.{read_entry};
 
 use crate::agent::Agent;
-use crate::host::{Host, Origin};
+use crate::host::Origin;
+use crate::machines::Machines;
 use crate::traffic::Traffic;
 use config_text::Attach;
-use indexmap::IndexSet;
 use std::alloc::Global;
 use vip_config::Config;
-use wire_core::{BodyList, Entry, EntryBytes, Ip4, NoMemory};
+use wire_core::{BodyList, Entry, EntryBytes, NoMemory};
 
 /// The greater of a boot and of the one that the body tells, if it tells one.
 fn boot_after(boot: u64, body: &[u8]) -> u64
@@ -37,29 +37,6 @@ fn greatest_boot(bodies: &[EntryBytes]) -> u64
         boot = boot_after(boot, body.as_slice());
     }
     boot
-}
-
-/// The machines, without packets.
-fn make_hosts(alloc: Global, machines: &[Attach]) -> Result<Vec<Host>, NoMemory>
-    ensures { IfOk result (λ hosts. hosts.items ≡ map (λ (m : Attached). new_host m.address) machines.now) }
-{
-    let mut hosts = Vec::new(alloc);
-    for machine in machines {
-        hosts.push(Host::new(alloc, machine.address)?)?;
-    }
-    Ok(hosts)
-}
-
-/// Their addresses, each at its machine's place.
-fn index_machines(alloc: Global, machines: &[Attach]) -> Result<IndexSet<Ip4>, NoMemory>
-    requires { Once (map (λ (m : Attached). m.address) machines.now) }
-    ensures { IfOk result (λ index. index.keys ≡ map (λ (m : Attached). m.address) machines.now) }
-{
-    let mut index = IndexSet::new(alloc);
-    for machine in machines {
-        index.insert(machine.address)?;
-    }
-    Ok(index)
 }
 
 /// The configured machines of the agent with this number. None where it isn't configured.
@@ -84,8 +61,7 @@ impl Agent {
     {
         cfg.keeps_rules();
         let machines = machines_of(cfg, index);
-        let hosts = make_hosts(alloc, machines)?;
-        let places = index_machines(alloc, machines)?;
+        let hosts = Machines::new(alloc, machines)?;
         let rules = cfg.lease_rules(alloc)?;
         let cfg = cfg.copy(alloc)?;
         let boot = greatest_boot(bodies.as_slice());
@@ -96,7 +72,6 @@ impl Agent {
             origin: Origin { boot, hint: 0 },
             known: false,
             hosts,
-            machines: places,
             traffic: Traffic::new(alloc),
         })
     }

@@ -98,7 +98,7 @@ impl Agent {
             ≡ turned (with_lists self.old) self.old.config step.old
             (outer_as self.old.config self.old.lists sender (inner_of inner.now))) }
     {
-        if self.place_of(inner.outer_dst).is_none() {
+        if !self.hosts.is_own(inner.outer_dst) {
             return drop_for(step, DropCause::NotMine);
         }
         if !may_wrap(&self.cfg, sender, inner.outer_src) {

@@ -9,4 +9,4 @@ abbrev pub invariant-loop-host : goal.invariant-loop-host
 invariant-loop-host l =
     l.step
     ≡ with_sends (flat_map (outgoing l.fn.cfg)
-      (flat_map (λ (h : Host). ask_again l.boot l.now l.retry h.machine h.ask) (take l.host-index l.hosts))) l.fn.step
+    (flat_map (λ (h : Host). ask_again l.boot l.now l.retry h.machine h.ask) (take l.host-index l.hosts))) l.fn.step

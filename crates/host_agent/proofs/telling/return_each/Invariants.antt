@@ -9,4 +9,4 @@ abbrev pub invariant-loop-n : goal.invariant-loop-n
 invariant-loop-n l =
     l.step
     ≡ with_sends (flat_map (outgoing l.fn.cfg)
-      (flat_map (λ (n : ℕ). tell_all (Return l.boot n)) (take l.n-index l.numbers))) l.fn.step
+    (flat_map (λ (n : ℕ). tell_all (Return l.boot n)) (take l.n-index l.numbers))) l.fn.step

@@ -21,4 +21,4 @@ returns-clause-no c = λ e.
       inbound = c.self.inside.inbound;
       time = c.self.inside.time;
     }) c.returned.ensures.conns
-    ∙ sym c.self.view_is
+    ∙ c.self.view_is
