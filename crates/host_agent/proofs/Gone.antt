@@ -30,11 +30,12 @@ more_acts a rest o = rw (append_assoc o.acts (a ∷ []) rest) refl
 -- none is found, so none passes
 pub none_pass : {X : Type 0} (p : X → Bool) (xs : List X) → find p xs ≡ None → filter p xs ≡ []
 none_pass p [] e = refl
-none_pass p (x ∷ xs) e = by (p x) refl e
+none_pass p (x ∷ xs) e = by (p x) e (none_pass p xs)
   where
-    by : (b : Bool) → p x ≡ b → cond b (Some x) (find p xs) ≡ None → cond b (x ∷ filter p xs) (filter p xs) ≡ []
-    by true is e = absurd (cc)
-    by false is e = none_pass p xs e
+    by : (b : Bool) → cond b (Some x) (find p xs) ≡ None → (find p xs ≡ None → filter p xs ≡ [])
+        → cond b (x ∷ filter p xs) (filter p xs) ≡ []
+    by true e more = absurd (cc)
+    by false e more = more e
 
 -- connections closed one after the other
 pub closed_turned : (c : ConfigParts) (cs : List Connection) (o : Step) (t : Traffic)

@@ -36,7 +36,7 @@ mapped_place : {X Y : Type 0} (p : Y → Bool) (f : X → Y) (xs : List X)
 mapped_place p f [] = refl
 mapped_place p f (x ∷ xs) = ap (λ n. cond (not (p (f x))) (1 + n) 0) (mapped_place p f xs)
 
-as_long : {X Y : Type 0} (f : X → Y) (xs : List X) → length (map f xs) ≡ length xs
+pub as_long : {X Y : Type 0} (f : X → Y) (xs : List X) → length (map f xs) ≡ length xs
 as_long f [] = refl
 as_long f (x ∷ xs) = ap suc (as_long f xs)
 

@@ -210,7 +210,7 @@ old_same t u n kept range m e = by (is_old t.ranges n range) e
     pair : Bool → Ranges × Granting
     pair b = cond b (t.ranges, granting.Old (kept_at t.ranges.kept range)) (new, granting.Held)
 
-    by : (b : Bool) → (u, granting.Old kept) ≡ (with_ranges t (pair b).0, (pair b).1) → u ≡ t
+    by : (b : Bool) → ◌≡◌ {A = Traffic × Granting} (u, granting.Old kept) (with_ranges t (pair b).0, (pair b).1) → u ≡ t
     by true f = ap (λ (x : Traffic × Granting). x.0) f
     by false f = absurd (held_is_not_old kept (ap (λ (x : Traffic × Granting). x.1) f))
 

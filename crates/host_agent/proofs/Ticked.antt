@@ -99,11 +99,8 @@ said_turned core o p q r retry up asks returns =
     (flat_map (outgoing core.config) (returns_again core.lists)) o
     ∙ ap (λ (xs : List Outgoing). with_sends xs o)
     (rw (
-      flat_append (outgoing core.config) (up_again core.lists) (asks_again retry core.lists ++ returns_again core.lists),
-      flat_append (outgoing core.config) (asks_again retry core.lists) (returns_again core.lists),
-      append_assoc (flat_map (outgoing core.config) (up_again core.lists))
-          (flat_map (outgoing core.config) (asks_again retry core.lists))
-          (flat_map (outgoing core.config) (returns_again core.lists)),
+      flat_append (outgoing core.config) (up_again core.lists ++ asks_again retry core.lists) (returns_again core.lists),
+      flat_append (outgoing core.config) (up_again core.lists) (asks_again retry core.lists),
     ) refl) in
     ap (λ (s : Step).
     (with_lists core (record core.lists { hosts = map (renewed core.lists.traffic.time retry) core.lists.hosts }), s)) all

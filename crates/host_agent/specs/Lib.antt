@@ -6,3 +6,4 @@ pub mod Retries
 pub mod Hosts
 pub mod Transfers
 pub mod Idle
+pub mod Served

@@ -43,7 +43,7 @@ impl Agent {
             step,
             self.hosts.as_slice(),
             self.origin.boot,
-            self.traffic.time,
+            self.traffic.time(),
             retry,
         )?;
         Ok(())
@@ -62,7 +62,6 @@ impl Agent {
     }
 
     /// What isn't answered is said again.
-    #[tactic(auto, using(crate::proofs::Ticked::said_turned))]
     fn say_again(&mut self, alloc: Global, step: &mut Step, retry: u64) -> Result<(), NoMemory>
         ensures { OnOk result ((self.new, step.new)
             ≡ turned (with_lists self.old) self.old.config step.old (says_again retry self.old.lists)) }
@@ -70,12 +69,11 @@ impl Agent {
         self.say_up(alloc, step)?;
         self.say_asks(alloc, step, retry)?;
         self.say_returns(alloc, step)?;
-        self.hosts.renew(self.traffic.time, retry);
+        self.hosts.renew(self.traffic.time(), retry);
         Ok(())
     }
 
     /// A tick: what is idle leaves, and then what is due is said.
-    #[tactic(auto, using(crate::proofs::Ticked::tick_turned))]
     pub(crate) fn on_tick(
         &mut self,
         alloc: Global,

@@ -56,7 +56,6 @@ fn give_back_spare(
 }
 
 /// What is idle leaves: connections, inbound entries, ranges.
-#[tactic(auto, using(crate::proofs::Ticked::leave_turned))]
 pub(crate) fn leave_idle(
     cfg: &Config,
     traffic: &mut Traffic,
@@ -76,7 +75,6 @@ pub(crate) fn leave_idle(
 impl Traffic {
     /// Idle connections close, first opened first. Looks at each connection at most once, and at none while none can be
     /// idle.
-    #[tactic(auto, using(crate::proofs::Ticked::idle_turned))]
     fn close_idle(&mut self, cfg: &Config, step: &mut Step, idle: u64) -> Result<(), NoMemory>
         ensures { OnOk result ((self.new, step.new) ≡ turned as_is cfg.now step.old (close_idle idle self.old)) }
     {

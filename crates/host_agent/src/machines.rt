@@ -1,13 +1,15 @@
 // The machines of an agent.
-ghost use Rattle.std.specs.Prelude.{◌≡◌, ◌<◌, ◌∷◌, [], map, length, position, slice_get, is_some, option_map, IfOk, IfSome};
+ghost use Rattle.std.specs.Prelude.{◌≡◌, ◌<◌, ◌∷◌, [], fold, map, length, set, slice_get, Some, None, option_map, IfOk, IfSome, OnOk};
 ghost use Rattle.agent_spec.specs.Agent.{host_of, is_own, new_host, put_host};
-ghost use Rattle.agent_spec.specs.Answers.{take_grant};
+ghost use Rattle.agent_spec.specs.Agent.{Host as Kept};
+ghost use Rattle.agent_spec.specs.Answers.{is_ask, take_grant};
 ghost use Rattle.agent_spec.specs.Clock.{holds_packet, renewed};
 ghost use Rattle.agent_spec.specs.Packets.{read_as};
 ghost use Rattle.config_text.specs.declared.agents.Attach.{Attach as Attached};
-ghost use Rattle.host_agent.specs.Hosts.{at_place, denial, hosts_of};
+ghost use Rattle.host_agent.specs.Hosts.{addresses, at_place, denial, hosts_of, put_at, with_address};
 ghost use Rattle.host_agent.specs.Seen.{as_is, kept_in, site};
-ghost use Rattle.node_spec.specs.Steps.{tried};
+ghost use Rattle.host_agent.specs.Retries.{with_denials};
+ghost use Rattle.node_spec.specs.Steps.{tried, turned};
 ghost use Rattle.packet_spec.specs.Packets.{read_packet};
 ghost use Rattle.vip_config.specs.Rules.{Once};
 ghost use Rattle.wire_core.specs.Same.{same_ip};
@@ -55,16 +57,84 @@ fn make_hosts(alloc: Global, machines: &[Attach]) -> Result<Vec<Host>, NoMemory>
     Ok(hosts)
 }
 
+/// One address more, unless it is there.
+fn add_address(index: &mut IndexSet<Ip4>, machine: &Attach) -> Result<(), NoMemory>
+    ensures { OnOk result (index.new.keys ≡ with_address index.old.keys machine.now) }
+{
+    index.insert(machine.address)?;
+    Ok(())
+}
+
 /// Their addresses, each at its machine's place.
 fn index_machines(alloc: Global, machines: &[Attach]) -> Result<IndexSet<Ip4>, NoMemory>
-    requires { Once (map (λ (m : Attached). m.address) machines.now) }
-    ensures { IfOk result (λ index. index.keys ≡ map (λ (m : Attached). m.address) machines.now) }
+    ensures { IfOk result (λ index. index.keys ≡ fold with_address [] machines.now) }
 {
     let mut index = IndexSet::new(alloc);
     for machine in machines {
-        index.insert(machine.address)?;
+        add_address(&mut index, machine)?;
     }
     Ok(index)
+}
+
+/// Whether the ask with this number is out, of the machine at a place.
+fn is_asking_at(hosts: &[Host], place: usize, seq: u64) -> bool
+    requires { place < length hosts.now }
+    ensures { (h : Kept) → slice_get hosts.now place ≡ Some h → result ≡ is_ask seq h.ask }
+{
+    hosts[place].is_asking(seq)
+}
+
+/// The ask of the machine at a place is over, and each held packet is dropped.
+fn refuse_at(hosts: &mut [Host], place: usize, step: &mut Step) -> Result<(), NoMemory>
+    requires { place < length hosts.old }
+    ensures left { (h : Kept) → slice_get hosts.old place ≡ Some h → OnOk result
+        (hosts.new ≡ set hosts.old place (record h { queue = []; ask = None })) }
+    ensures notes { (h : Kept) → slice_get hosts.old place ≡ Some h → OnOk result
+        (step.new ≡ with_denials h.queue step.old) }
+    ensures machines { addresses hosts.new ≡ addresses hosts.old }
+{
+    hosts[place].refuse(step)
+}
+
+/// What came from the socket of the machine at a place as a packet.
+fn packet_at(
+    alloc: Global,
+    cfg: &Config,
+    origin: &Origin,
+    traffic: &mut Traffic,
+    hosts: &mut [Host],
+    step: &mut Step,
+    place: usize,
+    bytes: &[u8],
+) -> Result<(), NoMemory>
+    requires { place < length hosts.old }
+    ensures turn { (h : Kept) → slice_get hosts.old place ≡ Some h → OnOk result (((traffic.new, hosts.new), step.new)
+        ≡ turned (put_at hosts.old place) cfg.now step.old
+        (read_as cfg.now origin.now.boot origin.now.hint (site traffic.old h) (read_packet bytes.now))) }
+    ensures machines { addresses hosts.new ≡ addresses hosts.old }
+{
+    read_machine_packet(alloc, cfg, origin, traffic, &mut hosts[place], step, bytes)
+}
+
+/// A range is held from now on by the machine at a place, and its held packets go through the rows.
+fn grant_at(
+    alloc: Global,
+    cfg: &Config,
+    origin: &Origin,
+    traffic: &mut Traffic,
+    hosts: &mut [Host],
+    step: &mut Step,
+    place: usize,
+    seq: u64,
+    n: u64,
+) -> Result<(), NoMemory>
+    requires { place < length hosts.old }
+    ensures turn { (h : Kept) → slice_get hosts.old place ≡ Some h → OnOk result (((traffic.new, hosts.new), step.new)
+        ≡ turned (put_at hosts.old place) cfg.now step.old
+        (take_grant cfg.now origin.now.boot origin.now.hint (site traffic.old h) seq n)) }
+    ensures machines { addresses hosts.new ≡ addresses hosts.old }
+{
+    take_grant(alloc, cfg, origin, traffic, &mut hosts[place], step, seq, n)
 }
 
 impl Machines {
@@ -132,10 +202,11 @@ impl Machines {
         let Some(place) = self.place_of(machine) else {
             return Ok(false);
         };
-        if !self.list[place].is_asking(seq) {
+        let out = is_asking_at(&self.list, place, seq);
+        if !out {
             return Ok(false);
         }
-        self.list[place].refuse(step)?;
+        refuse_at(&mut self.list, place, step)?;
         Ok(true)
     }
 
@@ -158,8 +229,16 @@ impl Machines {
         let Some(place) = self.place_of(machine) else {
             return Ok(false);
         };
-        let host = &mut self.list[place];
-        read_machine_packet(alloc, cfg, origin, traffic, host, step, bytes)?;
+        packet_at(
+            alloc,
+            cfg,
+            origin,
+            traffic,
+            &mut self.list,
+            step,
+            place,
+            bytes,
+        )?;
         Ok(true)
     }
 
@@ -184,8 +263,17 @@ impl Machines {
         let Some(place) = self.place_of(machine) else {
             return Ok(false);
         };
-        let host = &mut self.list[place];
-        take_grant(alloc, cfg, origin, traffic, host, step, seq, n)?;
+        grant_at(
+            alloc,
+            cfg,
+            origin,
+            traffic,
+            &mut self.list,
+            step,
+            place,
+            seq,
+            n,
+        )?;
         Ok(true)
     }
 }

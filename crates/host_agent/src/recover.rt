@@ -40,7 +40,11 @@ fn greatest_boot(bodies: &[EntryBytes]) -> u64
 }
 
 /// The configured machines of the agent with this number. None where it isn't configured.
-fn machines_of(cfg: &Config, index: u16) -> &[Attach] {
+fn machines_of(cfg: &Config, index: u16) -> &[Attach]
+    requires { Once (all_machines cfg.now) }
+    ensures hosts { hosts_of result.now ≡ new_hosts (slice_get cfg.now.agents index) }
+    ensures apart { Once (map (λ (m : Attached). m.address) result.now) }
+{
     match cfg.agents().get(usize::from(index)) {
         Some(agent) => agent.machines.as_slice(),
         None => &[],
@@ -50,6 +54,7 @@ fn machines_of(cfg: &Config, index: u16) -> &[Attach] {
 impl Agent {
     /// An agent as it opens under a configuration: its boot is the greatest of the entries that the bodies spell, and it
     /// has nothing else. It takes a copy of the configuration. The cost is linear in the configuration and in the bodies.
+    #[tactic(auto, unfolding(agent_spec::specs::Agent::opened_agent))]
     pub fn recover(
         alloc: Global,
         cfg: &Config,

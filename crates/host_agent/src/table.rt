@@ -112,7 +112,8 @@ impl Agent {
             sender,
             inner.outer_dst,
             inner.bytes,
-        )
+        )?;
+        Ok(())
     }
 
     /// A wrapped packet.

@@ -134,6 +134,13 @@ impl Traffic {
         self.inbound.meet_again(&private_key(c), self.time, clear);
     }
 
+    /// The time in milliseconds.
+    pub(crate) fn time(&self) -> u64
+        ensures { result ≡ self.now.time }
+    {
+        self.time
+    }
+
     /// The time is the greater of the two.
     pub(crate) fn advance(&mut self, now: u64)
         ensures { self.new ≡ record self.old { time = max self.old.time now } }

@@ -1,5 +1,5 @@
 use Rattle.std.proofs.Common.{rules, ◌≡◌, ◌∙◌, ◌<◌, length, get_or, ap, sym, set}
-use Rattle.std.proofs.lemmas.List.{map_over_more}
+use Rattle.std.proofs.lemmas.List.Edits.{map_over_more}
 use Rattle.agent_spec.specs.Agent.{Host}
 use Rattle.agent_spec.specs.Clock.{renewed}
 use Rattle.host_agent.proofs.telling.renew_each.Goals as goal
