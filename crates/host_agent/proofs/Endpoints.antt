@@ -1,5 +1,6 @@
 -- The endpoint that packets are for, VIP by VIP.
-use Rattle.std.proofs.Common.{◌≡◌, ◌∙◌, ℕ, Bool, true, false, cond, List, [], ◌∷◌, ◌++◌, find, Option, Some, None, refl, sym, ap}
+use Rattle.std.proofs.Common.{◌≡◌, ◌∙◌, ℕ, Bool, true, false, cond, List, [], ◌∷◌, ◌++◌, ◌+◌, ◌<◌, length, drop, get_or, find, Option, Some, None, refl, sym, ap}
+use Rattle.std.proofs.lemmas.List.{drop_more}
 use Rattle.wire_core.specs.declared.address.Ip4.{Ip4}
 use Rattle.wire_core.specs.declared.flow.FlowKey.{FlowKey}
 use Rattle.config_text.specs.declared.vips.Endpoint.{Endpoint}
@@ -40,3 +41,8 @@ unfolding member_at endpoint_for
 served_later k m vips rest v are found =
     ap (λ (vs : List VipConf). member_in m (find (serves k) (endpoints_at vs k.dst))) are
     ∙ ap (member_in m) (found_later (serves k) (endpoints_in k v) (endpoints_at rest k.dst) found)
+
+-- the VIP that is looked at, and those behind it
+pub next_vip : (vips : List VipConf) (i : ℕ) (v : VipConf) → i < length vips → v ≡ get_or vips i v
+    → drop i vips ≡ v ∷ drop (i + 1) vips
+next_vip vips i v lt is = drop_more vips i v lt ∙ ap (λ (x : VipConf). x ∷ drop (i + 1) vips) (sym is)

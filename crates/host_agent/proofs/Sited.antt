@@ -13,7 +13,7 @@ use Rattle.wire_core.proofs.SameLaws.{ip_is}
 use Rattle.packet_spec.specs.Packets.{read_packet}
 use Rattle.vip_config.specs.Leases.{lease_rules_of}
 use Rattle.vip_config.specs.Serving.{has_snat}
-use Rattle.node_spec.specs.Turns.{Turn, drop_turn}
+use Rattle.node_spec.specs.Turns.{Turn, drop_turn, lifted}
 use Rattle.vip_config.specs.declared.parts.ConfigParts.{ConfigParts}
 use Rattle.indexmap.specs.IndexMap.{insert_entry}
 use Rattle.agent_spec.specs.Ranges.{Ranges, granted, inserted, is_old, kept_at, new_held}
@@ -21,7 +21,7 @@ use Rattle.node_spec.specs.Steps.{onto, turned, tried}
 use Rattle.node_spec.proofs.Turning.{drop_turned}
 use Rattle.agent_spec.specs.declared.held.Granting.{Granting}
 use Rattle.agent_spec.specs.declared.held.Granting.TheVariants as granting
-use Rattle.agent_spec.specs.Agent.{Agent, Host, Site, Traffic, host_of, of_site, put_host, site_at, with_ranges}
+use Rattle.agent_spec.specs.Agent.{Agent, Host, Site, Traffic, host_of, of_site, put_host, site_at, with_ranges, with_traffic}
 use Rattle.agent_spec.specs.Answers.{denied, grant_to, is_ask, refused, take_grant, took}
 use Rattle.agent_spec.specs.Packets.{of_machine, read_as}
 use Rattle.host_agent.specs.Hosts.{denial}
@@ -45,6 +45,13 @@ site_turned core o p u hs own h r row e is =
     (with_lists core (record core.lists { traffic = x.0.0; hosts = x.0.1 }), x.1.0))
     (e ∙ ap (λ (y : Option Host).
     tried (kept_in core.lists.hosts) core.config o (core.lists.traffic, core.lists.hosts) (option_map row y)) is)
+
+-- a turn of the traffic
+pub lifted_turned : (core : Core) (o p : Step) (u : Traffic) (t : Turn Traffic) → (u, p) ≡ turned as_is core.config o t
+    → (with_lists core (with_traffic core.lists u), p)
+    ≡ turned (with_lists core) core.config o (lifted (with_traffic core.lists) t)
+unfolding turned onto
+lifted_turned core o p u t e = ap (λ (x : Traffic × Step). (with_lists core (with_traffic core.lists x.0), x.1)) e
 
 -- a packet of a machine that is its own
 pub packet_turned : (core : Core) (o p : Step) (u : Traffic) (hs : List Host) (bytes : List ℕ) (r : Option Host)
@@ -242,3 +249,7 @@ grant_new c a from seq n range m u h found may e =
     (take_grant c a.boot from
     (site (with_ranges a.traffic (granted a.traffic.ranges n range x a.traffic.time).0) h) seq n)) is
     ∙ ap (λ (x : Traffic × Granting). of_site (record a { hint = from }) (take_grant c a.boot from (site x.0 h) seq n)) (sym e))
+
+pub some_of : (r : Option Host) → is_some r ≡ true → (h : Host) × (r ≡ Some h)
+some_of None e = absurd (no_true (sym e))
+some_of (Some h) e = (h, refl)

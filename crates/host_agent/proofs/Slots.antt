@@ -1,6 +1,6 @@
 -- A machine's turn at its place.
 use Rattle.std.proofs.Common.{◌≡◌, ◌∙◌, ℕ, zero, suc, ◌<◌, ◌≤◌, Bool, true, false, cond, List, [], ◌∷◌, ◌++◌, map, length, take, drop, set}
-use Rattle.std.proofs.Common.{slice_get, Option, Some, None, refl, sym, ap, subst, append-nil, arith}
+use Rattle.std.proofs.Common.{slice_get, get_or, Option, Some, None, Result, Ok, Err, OnOk, refl, sym, ap, subst, append-nil, arith}
 use Rattle.std.specs.Prelude.{option_map}
 use Rattle.std.proofs.lemmas.List.{take_all, drop_all}
 use Rattle.wire_core.specs.declared.address.Ip4.{Ip4}
@@ -15,9 +15,9 @@ use Rattle.node_spec.specs.Turns.{Turn, quiet}
 use Rattle.node_spec.specs.Steps.{onto, turned, tried}
 use Rattle.agent_spec.specs.Agent.{Host, Site, Traffic, host_of, put_host}
 use Rattle.agent_spec.specs.Answers.{is_ask}
-use Rattle.host_agent.specs.Hosts.{addresses, denial, put_at}
+use Rattle.host_agent.specs.Hosts.{IsKept, addresses, denial, put_at}
 use Rattle.host_agent.specs.Retries.{with_denials}
-use Rattle.host_agent.specs.Seen.{as_is, kept_in}
+use Rattle.host_agent.specs.Seen.{as_is, kept_in, site}
 use Rattle.host_agent.proofs.Places.{put_at as put_is_set}
 
 -- a list that took the whole place of another
@@ -40,6 +40,13 @@ as_many (h ∷ hs) (g ∷ gs) e = ap suc (as_many hs gs (tail_of e))
 pub whole_hosts : (n : ℕ) (hs gs : List Host) → n ≡ length hs → addresses gs ≡ addresses hs
     → take n (gs ++ drop (length gs) hs) ≡ gs
 whole_hosts n hs gs len e = whole_list n hs gs len (as_many hs gs e)
+
+-- with the same addresses they are kept
+pub kept_same : (hs gs : List Host) (places : List Ip4) → IsKept hs places → addresses gs ≡ addresses hs → IsKept gs places
+kept_same hs gs places kept same = record {
+  places_are = kept.places_are ∙ sym same;
+  apart = subst (λ (ms : List Ip4). Once ms) (sym same) kept.apart;
+}
 
 there : (hs : List Host) (i : ℕ) → i < length hs → (h : Host) × (slice_get hs i ≡ Some h)
 there [] i lt = absurd (omega arith)
@@ -131,3 +138,33 @@ undenied_at c o hs m i seq found lt asks = by (there hs i lt)
     by (h, is) =
         ap (λ (b : Bool). tried as_is c o hs (if b then Some (denial_of hs h) else None)) (asks h is)
         ∙ ap (λ (r : Option Host). tried as_is c o hs (denial hs seq r)) (sym is ∙ found)
+
+-- ---- on a slice
+
+-- the element that was read
+pub element_is : (hs : List Host) (i : ℕ) (x h : Host) → x ≡ get_or hs i x → slice_get hs i ≡ Some h → x ≡ h
+element_is [] i x h is e = absurd (cc)
+element_is (g ∷ gs) zero x h is e = is ∙ first g h e
+  where
+    first : (a b : Host) → Some a ≡ Some b → a ≡ b
+    first a b f = cc
+element_is (g ∷ gs) (suc i) x h is e = element_is gs i x h is e
+
+-- where the call is done
+pub on_ok : {A E P Q : Type 0} (r : Result A E) → (P → Q) → OnOk r P → OnOk r Q
+on_ok (Ok x) f p = f p
+on_ok (Err e) f p = tt
+
+-- a machine's turn, at its place
+pub at_turned : (c : ConfigParts) (o p : Step) (u : Traffic) (hs : List Host) (i : ℕ) (g : Host) (t : Turn Site)
+    → (site u g, p) ≡ turned as_is c o t → ((u, set hs i g), p) ≡ turned (put_at hs i) c o t
+unfolding turned
+at_turned c o p u hs i g t e = ap (λ (x : Site × Step). (put_at hs i x.0, x.1)) e
+
+-- where it keeps its address, all do
+pub addresses_stay : (hs : List Host) (i : ℕ) (g x : Host) → g.machine ≡ x.machine → x ≡ get_or hs i x
+    → addresses (set hs i g) ≡ addresses hs
+addresses_stay [] i g x same is = refl
+addresses_stay (h ∷ hs) zero g x same is =
+    ap (λ (m : Ip4). m ∷ addresses hs) (same ∙ ap (λ (y : Host). y.machine) is)
+addresses_stay (h ∷ hs) (suc i) g x same is = ap (λ ms. h.machine ∷ ms) (addresses_stay hs i g x same is)

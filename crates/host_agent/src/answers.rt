@@ -1,5 +1,8 @@
 // What replicas answer.
-ghost use Rattle.std.specs.Prelude.{◌≡◌, Some, OnOk};
+ghost use Rattle.std.specs.Prelude.{◌≡◌, ◌&&◌, Some, OnOk};
+ghost use Rattle.vip_config.specs.Leases.{lease_rules_of};
+ghost use Rattle.vip_config.specs.Serving.{has_snat};
+ghost use Rattle.wire_core.specs.Ranges.{is_leasable};
 ghost use Rattle.agent_spec.specs.Answers.{grant_to, on_denied, on_grant, on_known, on_returned, take_grant};
 ghost use Rattle.agent_spec.specs.Agent.{Host, host_of, of_site};
 ghost use Rattle.host_agent.specs.Seen.{site, with_lists};
@@ -102,6 +105,14 @@ impl Agent {
         self.grant_to(alloc, step, from, grant)
     }
 
+    /// Whether the machine's connections leave from the range's VIP, and the range may be leased.
+    fn may_have(&self, grant: &Granted) -> bool
+        ensures { result ≡ (has_snat self.now.config.vips grant.now.range.vip grant.now.machine
+            && is_leasable (lease_rules_of self.now.config) grant.now.range) }
+    {
+        self.cfg.has_snat(grant.range.vip, grant.machine) && self.rules.leasable(&grant.range)
+    }
+
     /// A Grant in this boot: the machine is its own, and may have the range.
     #[tactic(auto, using(node_spec::proofs::Turning::drop_turned))]
     fn grant_to(
@@ -121,8 +132,7 @@ impl Agent {
             drop_for(step, DropCause::NotMine)?;
             return Ok(());
         }
-        let may = self.cfg.has_snat(grant.range.vip, grant.machine)
-            && self.rules.leasable(&grant.range);
+        let may = self.may_have(grant);
         if !may {
             drop_for(step, DropCause::NotMine)?;
             return Ok(());

@@ -1,5 +1,5 @@
 // An agent as it opens.
-ghost use Rattle.std.specs.Prelude.{◌≡◌, fold, map, slice_get, IfOk};
+ghost use Rattle.std.specs.Prelude.{◌≡◌, fold, map, option_copied, slice_get, IfOk};
 ghost use Rattle.agent_spec.specs.Agent.{new_hosts, opened_agent};
 ghost use Rattle.config_text.specs.declared.agents.Attach.{Attach as Attached};
 ghost use Rattle.host_agent.specs.Entries.{entries_of, entry_in};
@@ -12,7 +12,7 @@ use crate::agent::Agent;
 use crate::host::Origin;
 use crate::machines::Machines;
 use crate::traffic::Traffic;
-use config_text::Attach;
+use config_text::{AgentConf, Attach};
 use std::alloc::Global;
 use vip_config::Config;
 use wire_core::{BodyList, Entry, EntryBytes, NoMemory};
@@ -39,13 +39,20 @@ fn greatest_boot(bodies: &[EntryBytes]) -> u64
     boot
 }
 
-/// The configured machines of the agent with this number. None where it isn't configured.
+/// The agent with this number as configured. None where it isn't.
+fn conf_of(cfg: &Config, index: u16) -> Option<&AgentConf>
+    ensures { option_copied result ≡ slice_get cfg.now.agents index }
+{
+    cfg.agents().get(usize::from(index))
+}
+
+/// The machines of the agent with this number as configured. None where it isn't.
 fn machines_of(cfg: &Config, index: u16) -> &[Attach]
     requires { Once (all_machines cfg.now) }
     ensures hosts { hosts_of result.now ≡ new_hosts (slice_get cfg.now.agents index) }
     ensures apart { Once (map (λ (m : Attached). m.address) result.now) }
 {
-    match cfg.agents().get(usize::from(index)) {
+    match conf_of(cfg, index) {
         Some(agent) => agent.machines.as_slice(),
         None => &[],
     }
