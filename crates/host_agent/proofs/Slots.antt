@@ -162,9 +162,17 @@ unfolding turned
 at_turned c o p u hs i g t e = ap (λ (x : Site × Step). (put_at hs i x.0, x.1)) e
 
 -- where it keeps its address, all do
-pub addresses_stay : (hs : List Host) (i : ℕ) (g x : Host) → g.machine ≡ x.machine → x ≡ get_or hs i x
+pub addresses_stay : (hs : List Host) (i : ℕ) (g x : Host) → g.machine ≡ (get_or hs i x).machine
     → addresses (set hs i g) ≡ addresses hs
-addresses_stay [] i g x same is = refl
-addresses_stay (h ∷ hs) zero g x same is =
-    ap (λ (m : Ip4). m ∷ addresses hs) (same ∙ ap (λ (y : Host). y.machine) is)
-addresses_stay (h ∷ hs) (suc i) g x same is = ap (λ ms. h.machine ∷ ms) (addresses_stay hs i g x same is)
+addresses_stay [] i g x same = refl
+addresses_stay (h ∷ hs) zero g x same = ap (λ (m : Ip4). m ∷ addresses hs) same
+addresses_stay (h ∷ hs) (suc i) g x same = ap (λ ms. h.machine ∷ ms) (addresses_stay hs i g x same)
+
+-- what is read there
+pub read_is : (hs : List Host) (i : ℕ) (x h : Host) → slice_get hs i ≡ Some h → get_or hs i x ≡ h
+read_is [] i x h e = absurd (cc)
+read_is (g ∷ gs) zero x h e = first g h e
+  where
+    first : (a b : Host) → Some a ≡ Some b → a ≡ b
+    first a b f = cc
+read_is (g ∷ gs) (suc i) x h e = read_is gs i x h e
