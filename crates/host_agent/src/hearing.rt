@@ -61,8 +61,8 @@ fn decoded(sender: Who, bytes: &[u8]) -> Heard<'_>
     }
 }
 
-/// Puts a datagram to the tests, in their order: it is a frame, it holds a message, a Redirect is of a mux, and a message
-/// is of a node.
+/// Puts a datagram to the tests, in their order: it is a frame, it holds a message, a Redirect is of a mux, and a
+/// message is of a node.
 #[tactic(auto, unfolding(node_spec::specs::Datagrams::heard))]
 pub(crate) fn hear<'a>(cfg: &Config, from: &Socket, bytes: &'a [u8]) -> Heard<'a>
     ensures { heard_by result ≡ heard cfg.now from.now bytes.now }

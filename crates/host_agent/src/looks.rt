@@ -39,8 +39,8 @@ fn endpoint_of<'a>(vip: &'a VipConf, key: &FlowKey) -> Option<&'a Endpoint>
         .find(|endpoint| serves(key, endpoint))
 }
 
-/// The machine as one that serves the endpoint that packets with this key are for. Looks at each VIP, and at each endpoint
-/// of the key's destination.
+/// The machine as one that serves the endpoint that packets with this key are for. Looks at each VIP, and at each
+/// endpoint of the key's destination.
 pub(crate) fn member_at(cfg: &Config, key: &FlowKey, machine: Ip4) -> Option<Member>
     ensures { result ≡ member_at cfg.now.vips key.now machine }
 {

@@ -187,8 +187,8 @@ impl Machines {
         renew_each(&mut self.list, now, retry);
     }
 
-    /// The ask of the machine with this number is over, and what was held for it is dropped. False, and nothing has changed,
-    /// where no such ask is out.
+    /// The ask of the machine with this number is over, and what was held for it is dropped. False, and nothing has
+    /// changed, where no such ask is out.
     pub(crate) fn deny(
         &mut self,
         cfg: &Config,

@@ -59,8 +59,9 @@ fn machines_of(cfg: &Config, index: u16) -> &[Attach]
 }
 
 impl Agent {
-    /// An agent as it opens under a configuration: its boot is the greatest of the entries that the bodies spell, and it
-    /// has nothing else. It takes a copy of the configuration. The cost is linear in the configuration and in the bodies.
+    /// An agent as it opens under a configuration: its boot is the greatest of the entries that the bodies spell, and
+    /// it has nothing else. It takes a copy of the configuration. The cost is linear in the configuration and in the
+    /// bodies.
     #[tactic(auto, unfolding(agent_spec::specs::Agent::opened_agent))]
     pub fn recover(
         alloc: Global,

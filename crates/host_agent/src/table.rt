@@ -195,8 +195,8 @@ impl Agent {
         }
     }
 
-    /// One input: a datagram or a tick. The step is what the agent's table says, and so are the lists that are left. The
-    /// agent isn't used again after want of memory.
+    /// One input: a datagram or a tick. The step is what the agent's table says, and so are the lists that are left.
+    /// The agent isn't used again after want of memory.
     pub fn handle(&mut self, alloc: Global, input: &Input<'_>) -> Result<Step, NoMemory>
         ensures { IfOk result (λ step. (self.new, step)
             ≡ turned (with_lists self.old) self.old.config no_step

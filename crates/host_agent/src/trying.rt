@@ -117,8 +117,8 @@ fn by_inbound(
     Ok(true)
 }
 
-/// A packet of a machine's, without fault, leaves by its connection, by its inbound entry, or by a new connection through a
-/// port of the machine's ranges. False, and nothing has changed, where there is no port for it.
+/// A packet of a machine's, without fault, leaves by its connection, by its inbound entry, or by a new connection
+/// through a port of the machine's ranges. False, and nothing has changed, where there is no port for it.
 #[tactic(auto, unfolding(agent_spec::specs::Packets::try_packet))]
 pub(crate) fn try_packet(
     alloc: Global,
