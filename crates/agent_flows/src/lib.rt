@@ -19,9 +19,13 @@
 //! Left to the caller: a connection that is opened has keys that no other has.
 #![tactic(auto)]
 
+mod change;
 mod flows;
 mod keys;
+mod looked;
 mod opened;
+mod places;
+mod slots;
 
 pub use flows::Flows;
 pub use keys::{conn_of, private_key, public_key};
