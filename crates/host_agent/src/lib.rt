@@ -48,3 +48,6 @@ mod using;
 mod wrapped;
 
 pub use agent::Agent;
+
+#[cfg(test)]
+mod tests;
