@@ -46,6 +46,24 @@ const GRANT: &[u8] =
     b"\x01\x01\x09\x00\x00\x00\x00\x00\x00\x00\x01\x0a\x01\x00\x04\x00\x00\x00\x00\x00\x00\x00\x01\x00\x00\
 \x00\x00\x00\x00\x00\x01\xc0\x00\x02\x0a\x04\x00";
 
+/// The same to 198.51.100.8.
+const TO_ANOTHER: &[u8] =
+    b"\x02\x45\x00\x00\x1e\x00\x01\x00\x00\x40\x11\x46\x8e\x0a\x01\x00\x04\xc6\x33\x64\x08\x13\x88\x00\x35\
+\x00\x0a\x4f\x73\x68\x69";
+
+/// The same from the machine's port 5001.
+const FROM_ANOTHER_PORT: &[u8] =
+    b"\x02\x45\x00\x00\x1e\x00\x01\x00\x00\x40\x11\x46\x8f\x0a\x01\x00\x04\xc6\x33\x64\x07\x13\x89\x00\x35\
+\x00\x0a\x4f\x73\x68\x69";
+
+/// The same with a wrong checksum.
+const WRONG_SUM: &[u8] =
+    b"\x02\x45\x00\x00\x1e\x00\x01\x00\x00\x40\x11\x46\x8f\x0a\x01\x00\x04\xc6\x33\x64\x07\x13\x88\x00\x35\
+\x00\x0a\x4f\x75\x68\x69";
+
+/// The agent's entry of boot 2.
+const NEXT_BOOT: &[u8] = b"\x01\x01\x03\x00\x00\x00\x00\x00\x00\x00\x00\x00\x02";
+
 const MACHINE: Ip4 = Ip4(0x0a01_0004);
 
 const ATTACH: Socket = Socket {
@@ -73,13 +91,15 @@ const AGENT: Socket = Socket {
     port: 7000,
 };
 
-/// The agent in boot 1. None where the configuration isn't read.
-fn opened(alloc: Global) -> Result<Option<Agent>, AllocError> {
+/// The agent after these entries. None where the configuration isn't read.
+fn opened(alloc: Global, entries: &[&[u8]]) -> Result<Option<Agent>, AllocError> {
     let Ok(cfg) = Config::read(alloc, CONFIG) else {
         return Ok(None);
     };
     let mut bodies = BodyList::new(alloc);
-    bodies.push(EntryBytes::from_vec(BOOT.to_vec(alloc)?))?;
+    for entry in entries {
+        bodies.push(EntryBytes::from_vec(entry.to_vec(alloc)?))?;
+    }
     Ok(Some(Agent::recover(alloc, &cfg, 0, &bodies)?))
 }
 
@@ -128,10 +148,85 @@ fn is_dropped(step: &Step, why: DropCause) -> bool {
     }
 }
 
+/// What comes of a datagram: how many acts, notes and datagrams, and the first note.
+fn take(
+    agent: &mut Agent,
+    alloc: Global,
+    from: Socket,
+    bytes: &[u8],
+) -> Result<([usize; 3], Option<Note>), AllocError> {
+    let step = agent.handle(alloc, &Input::Datagram { from, bytes })?;
+    Ok((counts(&step), step.notes.as_slice().first().copied()))
+}
+
+fn dropped(cause: DropCause) -> Option<Note> {
+    Some(Note::Dropped { cause })
+}
+
+/// The port through which the i-th connection leaves.
+fn port_of(agent: &Agent, i: usize) -> Option<u16> {
+    agent.connection(i).map(|c| c.port)
+}
+
+#[test]
+fn sixty_four_packets_wait_and_leave_in_order(rt: HostRuntime) -> Result<(), Fail> {
+    let alloc = rt.alloc();
+    let Some(mut agent) = opened(alloc, &[BOOT])? else {
+        return Err(Fail::from("configuration"));
+    };
+    for count in 1..65u64 {
+        let (_, note) = take(&mut agent, alloc, ATTACH, PACKET)?;
+        assert_eq!(rt;
+            note,
+            Some(Note::Queued {
+                machine: MACHINE,
+                count
+            })
+        );
+    }
+    let (_, note) = take(&mut agent, alloc, ATTACH, PACKET)?;
+    assert_eq!(rt; note, dropped(DropCause::QueueFull));
+    let (all, _) = take(&mut agent, alloc, REPLICA, GRANT)?;
+    assert_eq!(rt; all, [2, 0, 64]);
+    Ok(())
+}
+
+#[test]
+fn ports_are_used_again_for_another_remote_end(rt: HostRuntime) -> Result<(), Fail> {
+    let alloc = rt.alloc();
+    let Some(mut agent) = opened(alloc, &[BOOT])? else {
+        return Err(Fail::from("configuration"));
+    };
+    take(&mut agent, alloc, ATTACH, PACKET)?;
+    take(&mut agent, alloc, REPLICA, GRANT)?;
+    take(&mut agent, alloc, ATTACH, TO_ANOTHER)?;
+    take(&mut agent, alloc, ATTACH, FROM_ANOTHER_PORT)?;
+    assert_eq!(rt; port_of(&agent, 0), Some(1024));
+    assert_eq!(rt; port_of(&agent, 1), Some(1024));
+    assert_eq!(rt; port_of(&agent, 2), Some(1025));
+    assert_eq!(rt; port_of(&agent, 3), None);
+    let (_, note) = take(&mut agent, alloc, ATTACH, WRONG_SUM)?;
+    assert_eq!(rt; note, dropped(DropCause::BadSum));
+    Ok(())
+}
+
+#[test]
+fn a_restarted_agent_takes_no_old_grant(rt: HostRuntime) -> Result<(), Fail> {
+    let alloc = rt.alloc();
+    let Some(mut agent) = opened(alloc, &[BOOT, NEXT_BOOT])? else {
+        return Err(Fail::from("configuration"));
+    };
+    let (_, note) = take(&mut agent, alloc, REPLICA, GRANT)?;
+    assert_eq!(rt; note, dropped(DropCause::WrongBoot(2)));
+    let (_, note) = take(&mut agent, alloc, MUX, REPLY)?;
+    assert_eq!(rt; note, dropped(DropCause::NoConnection));
+    Ok(())
+}
+
 #[test]
 fn a_packet_waits_leaves_and_is_answered(rt: HostRuntime) -> Result<(), Fail> {
     let alloc = rt.alloc();
-    let Some(mut agent) = opened(alloc)? else {
+    let Some(mut agent) = opened(alloc, &[BOOT])? else {
         return Err(Fail::from("configuration"));
     };
     let step = agent.handle(
