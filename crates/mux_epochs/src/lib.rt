@@ -5,6 +5,3 @@
 mod epochs;
 
 pub use epochs::admit;
-
-#[cfg(test)]
-mod tests;
