@@ -48,6 +48,3 @@ mod using;
 mod wrapped;
 
 pub use agent::Agent;
-
-#[cfg(test)]
-mod tests;
