@@ -27,3 +27,6 @@ mod sends;
 mod table;
 
 pub use mux::Mux;
+
+#[cfg(test)]
+mod tests;

@@ -5,3 +5,6 @@
 mod epochs;
 
 pub use epochs::admit;
+
+#[cfg(test)]
+mod tests;
