@@ -48,6 +48,9 @@ const PROGRAM_17: &str =
 /// Lease 1 goes to no machine.
 const UNPROGRAM: &str = "010112000000000000000500000000000000010000000000000001c000020a0400";
 
+/// Lease 17 goes to no machine.
+const UNPROGRAM_17: &str = "010112000000000000000500000000000000010000000000000011c000020a0400";
+
 /// Another mux asks for a redirect.
 const REDIRECT_ASKED: &str = "010116c000020a0400c000021400500a010005";
 
@@ -129,7 +132,11 @@ const ROW_LINES: &str = "\
     drop WrongRole\n\
     drop NotNode\n\
     drop BadFrame\n\
-    drop BadMessage\n";
+    drop BadMessage\n\
+    replica 0 010113000000000000000500000000000000010000000000000011\n\
+    row 1024 none\n\
+    drop NoLease\n\
+    drop OldNumber 17\n";
 
 /// What the two flows and the dropped packets write.
 const FLOW_LINES: &str = "\
@@ -450,7 +457,8 @@ fn a_command_for_another_boot_is_refused(rt: HostRuntime) -> Result<(), Fail> {
     Ok(())
 }
 
-/// The same number with another machine, a greater one, a lesser one, none; and who may not command.
+/// The same number with another machine, a greater one, a lesser one, none; who may not command; and a cleared row,
+/// whose number stays.
 #[test]
 fn a_row_is_of_the_greatest_number(rt: HostRuntime) -> Result<(), Fail> {
     let story = Story {
@@ -470,6 +478,10 @@ fn a_row_is_of_the_greatest_number(rt: HostRuntime) -> Result<(), Fail> {
             Act::Hear(router(), PROGRAM),
             Act::Hear(router(), "03"),
             Act::Hear(router(), "0101"),
+            Act::Hear(replica(0), UNPROGRAM_17),
+            Act::Row(1024),
+            Act::Hear(router(), REPLY_IN),
+            Act::Hear(replica(0), PROGRAM_17),
         ],
     };
     let held = tells(rt.alloc(), story, ROW_LINES)?;
