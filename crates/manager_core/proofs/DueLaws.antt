@@ -1,0 +1,112 @@
+-- What is due by the table, and how a value is filled with it.
+use Rattle.std.proofs.Common.{◌≡◌, ◌≤◌, ◌<◌, refl, sym, ap, ◌∙◌, ℕ, zero, suc, ◌+◌, ◌-◌, Bool, true, false, not, ◌&&◌, ◌||◌, nat_lt, List, [], ◌∷◌, ◌++◌, map, filter, length, take, drop, append-nil, append_assoc, arith}
+use Rattle.std.specs.Prelude.{◌==◌, if◌then◌else◌, min}
+use Rattle.std.proofs.lemmas.List.{length-append}
+use Rattle.std.proofs.lemmas.Bool.Decides.{nat_tests}
+use Rattle.wire_core.specs.Commands.{LogCommand, AscendsFrom}
+use Rattle.manager_spec.specs.declared.peer.Peer.{Peer}
+use Rattle.manager_spec.specs.Proposal.{mux_boot}
+use Rattle.manager_core.specs.Seen.{NumberedFrom}
+
+-- ---- muxes stand by their numbers
+
+ascend_later : (j k : ℕ) (p : Peer → Bool) (ps : List Peer) → j ≤ k → NumberedFrom k ps
+    → AscendsFrom j (map mux_boot (filter p ps))
+ascend_later j k p [] le numbered = tt
+ascend_later j k p (x ∷ xs) le numbered = by (p x) refl
+  where
+    by : (b : Bool) → p x ≡ b → AscendsFrom j (map mux_boot (filter p (x ∷ xs)))
+    by true e = rw e (omega (arith, numbered.0), ascend_later (x.mux + 1) (k + 1) p xs (omega (arith, numbered.0)) numbered.1)
+    by false e = rw e (ascend_later j (k + 1) p xs (omega arith) numbered.1)
+
+filter_twice : (p q : Peer → Bool) (ps : List Peer) → filter p (filter q ps) ≡ filter (λ x. q x && p x) ps
+filter_twice p q [] = refl
+filter_twice p q (x ∷ xs) = by (q x) (p x) refl refl
+  where
+    by : (b c : Bool) → q x ≡ b → p x ≡ c → filter p (filter q (x ∷ xs)) ≡ filter (λ x. q x && p x) (x ∷ xs)
+    by true true e f = rw (e, f) (ap (λ (ys : List Peer). x ∷ ys) (filter_twice p q xs))
+    by true false e f = rw (e, f) (filter_twice p q xs)
+    by false c e f = rw e (filter_twice p q xs)
+
+pub holders_ascend : (p q : Peer → Bool) (ps : List Peer) → NumberedFrom 0 ps
+    → AscendsFrom 0 (map mux_boot (filter p (filter q ps)))
+holders_ascend p q ps numbered = rw (filter_twice p q ps) (ascend_later 0 0 _ ps (omega arith) numbered)
+
+filter_few : (p : Peer → Bool) (ps : List Peer) → length (filter p ps) ≤ length ps
+filter_few p [] = omega arith
+filter_few p (x ∷ xs) = by (p x) refl
+  where
+    by : (b : Bool) → p x ≡ b → length (filter p (x ∷ xs)) ≤ length (x ∷ xs)
+    by true e = let rest = filter_few p xs in rw e (omega arith)
+    by false e = let rest = filter_few p xs in rw e (omega arith)
+
+map_few : (ps : List Peer) → length (map mux_boot ps) ≡ length ps
+map_few [] = refl
+map_few (x ∷ xs) = ap (λ (n : ℕ). suc n) (map_few xs)
+
+pub holders_few : (p q : Peer → Bool) (ps : List Peer) → length ps ≤ 16
+    → length (map mux_boot (filter p (filter q ps))) ≤ 16
+holders_few p q ps few =
+    let a = map_few (filter p (filter q ps)) in
+    let b = filter_few p (filter q ps) in
+    let c = filter_few q ps in
+    omega arith
+
+pub no_holders : (ps : List Peer) → length (map mux_boot ps) ≡ length ps
+no_holders ps = map_few ps
+
+-- ---- a value with room for 16
+
+take_all : (n : ℕ) (xs : List LogCommand) → length xs ≤ n → take n xs ≡ xs
+take_all zero [] le = refl
+take_all (suc n) [] le = refl
+take_all zero (x ∷ xs) le = absurd (omega arith)
+take_all (suc n) (x ∷ xs) le = ap (λ (ys : List LogCommand). x ∷ ys) (take_all n xs (omega arith))
+
+-- a full value takes no more
+pub full_takes : (n : ℕ) (xs ys : List LogCommand) → length xs ≡ n → take n (xs ++ ys) ≡ xs
+full_takes zero [] ys e = refl
+full_takes (suc n) [] ys e = absurd (omega arith)
+full_takes zero (x ∷ xs) ys e = absurd (omega arith)
+full_takes (suc n) (x ∷ xs) ys e = ap (λ (zs : List LogCommand). x ∷ zs) (full_takes n xs ys (omega arith))
+
+-- and one with room takes all
+pub rest_takes : (n : ℕ) (xs : List LogCommand) → length xs ≤ n → take n (xs ++ []) ≡ xs
+rest_takes n xs le = ap (take n) (append-nil xs) ∙ take_all n xs le
+
+take_front : (n : ℕ) (xs ys : List LogCommand) → take n (take n xs ++ ys) ≡ take n (xs ++ ys)
+take_front zero xs ys = refl
+take_front (suc n) [] ys = refl
+take_front (suc n) (x ∷ xs) ys = ap (λ (zs : List LogCommand). x ∷ zs) (take_front n xs ys)
+
+pub take_twice : (xs ys : List LogCommand) → take 16 (take 16 xs ++ ys) ≡ take 16 (xs ++ ys)
+take_twice xs ys = take_front 16 xs ys
+
+-- one of the queue more
+pub filled_next : (v : List LogCommand) (c : LogCommand) (q : List LogCommand) → length v < 16
+    → (v ++ c ∷ []) ++ take (16 - length (v ++ c ∷ [])) q ≡ v ++ take (16 - length v) (c ∷ q)
+filled_next v c q lt =
+    let long : length (v ++ c ∷ []) ≡ length v + 1 = length-append v (c ∷ []) in
+    let room : 16 - length v ≡ suc (16 - length (v ++ c ∷ [])) = omega arith in
+    rw (room, append_assoc v (c ∷ []) (take (16 - length (v ++ c ∷ [])) q)) refl
+
+pub dropped_next : (v : List LogCommand) (c : LogCommand) (q : List LogCommand) → length v < 16
+    → drop (16 - length (v ++ c ∷ [])) q ≡ drop (16 - length v) (c ∷ q)
+dropped_next v c q lt =
+    let long : length (v ++ c ∷ []) ≡ length v + 1 = length-append v (c ∷ []) in
+    let room : 16 - length v ≡ suc (16 - length (v ++ c ∷ [])) = omega arith in
+    rw room refl
+
+-- where there is nothing, nothing leaves the queue
+pub nothing_dropped : (first queue : List LogCommand) → length (first ++ take (16 - length first) queue) ≡ 0
+    → drop (16 - length first) queue ≡ queue
+nothing_dropped [] [] e = refl
+nothing_dropped [] (q ∷ qs) e = absurd (omega arith)
+nothing_dropped (x ∷ xs) queue e = absurd (omega arith)
+
+-- a full value takes nothing of the queue
+pub full_filled : (v q : List LogCommand) → 16 ≤ length v → v ++ take (16 - length v) q ≡ v
+full_filled v q full = let e : 16 - length v ≡ 0 = omega arith in rw e (append-nil v)
+
+pub full_dropped : (v q : List LogCommand) → 16 ≤ length v → drop (16 - length v) q ≡ q
+full_dropped v q full = let e : 16 - length v ≡ 0 = omega arith in rw e refl
