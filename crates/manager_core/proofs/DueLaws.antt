@@ -10,35 +10,43 @@ use Rattle.manager_core.specs.Seen.{NumberedFrom}
 
 -- ---- muxes stand by their numbers
 
+ascend_by : (j k : ℕ) (p : Peer → Bool) (x : Peer) (xs : List Peer) (b : Bool) → p x ≡ b → j ≤ k → x.mux ≡ k
+    → AscendsFrom (x.mux + 1) (map mux_boot (filter p xs)) → AscendsFrom j (map mux_boot (filter p xs))
+    → AscendsFrom j (map mux_boot (filter p (x ∷ xs)))
+ascend_by j k p x xs true e le at f g = rw e (omega arith, f)
+ascend_by j k p x xs false e le at f g = rw e g
+
 ascend_later : (j k : ℕ) (p : Peer → Bool) (ps : List Peer) → j ≤ k → NumberedFrom k ps
     → AscendsFrom j (map mux_boot (filter p ps))
 ascend_later j k p [] le numbered = tt
-ascend_later j k p (x ∷ xs) le numbered = by (p x) refl
-  where
-    by : (b : Bool) → p x ≡ b → AscendsFrom j (map mux_boot (filter p (x ∷ xs)))
-    by true e = rw e (omega (arith, numbered.0), ascend_later (x.mux + 1) (k + 1) p xs (omega (arith, numbered.0)) numbered.1)
-    by false e = rw e (ascend_later j (k + 1) p xs (omega arith) numbered.1)
+ascend_later j k p (x ∷ xs) le numbered =
+    let at : x.mux ≡ k = numbered.0 in
+    ascend_by j k p x xs _ refl le at (ascend_later (x.mux + 1) (k + 1) p xs (omega arith) numbered.1)
+    (ascend_later j (k + 1) p xs (omega arith) numbered.1)
+
+twice_by : (p q : Peer → Bool) (x : Peer) (xs : List Peer) (b c : Bool) → q x ≡ b → p x ≡ c
+    → filter p (filter q xs) ≡ filter (λ x. q x && p x) xs
+    → filter p (filter q (x ∷ xs)) ≡ filter (λ x. q x && p x) (x ∷ xs)
+twice_by p q x xs true true e f rest = rw (e, f) (ap (λ (ys : List Peer). x ∷ ys) rest)
+twice_by p q x xs true false e f rest = rw (e, f) rest
+twice_by p q x xs false c e f rest = rw e rest
 
 filter_twice : (p q : Peer → Bool) (ps : List Peer) → filter p (filter q ps) ≡ filter (λ x. q x && p x) ps
 filter_twice p q [] = refl
-filter_twice p q (x ∷ xs) = by (q x) (p x) refl refl
-  where
-    by : (b c : Bool) → q x ≡ b → p x ≡ c → filter p (filter q (x ∷ xs)) ≡ filter (λ x. q x && p x) (x ∷ xs)
-    by true true e f = rw (e, f) (ap (λ (ys : List Peer). x ∷ ys) (filter_twice p q xs))
-    by true false e f = rw (e, f) (filter_twice p q xs)
-    by false c e f = rw e (filter_twice p q xs)
+filter_twice p q (x ∷ xs) = twice_by p q x xs _ _ refl refl (filter_twice p q xs)
 
 pub holders_ascend : (p q : Peer → Bool) (ps : List Peer) → NumberedFrom 0 ps
     → AscendsFrom 0 (map mux_boot (filter p (filter q ps)))
 holders_ascend p q ps numbered = rw (filter_twice p q ps) (ascend_later 0 0 _ ps (omega arith) numbered)
 
+few_by : (p : Peer → Bool) (x : Peer) (xs : List Peer) (b : Bool) → p x ≡ b → length (filter p xs) ≤ length xs
+    → length (filter p (x ∷ xs)) ≤ length (x ∷ xs)
+few_by p x xs true e rest = rw e (omega arith)
+few_by p x xs false e rest = rw e (omega arith)
+
 filter_few : (p : Peer → Bool) (ps : List Peer) → length (filter p ps) ≤ length ps
 filter_few p [] = omega arith
-filter_few p (x ∷ xs) = by (p x) refl
-  where
-    by : (b : Bool) → p x ≡ b → length (filter p (x ∷ xs)) ≤ length (x ∷ xs)
-    by true e = let rest = filter_few p xs in rw e (omega arith)
-    by false e = let rest = filter_few p xs in rw e (omega arith)
+filter_few p (x ∷ xs) = few_by p x xs _ refl (filter_few p xs)
 
 map_few : (ps : List Peer) → length (map mux_boot ps) ≡ length ps
 map_few [] = refl

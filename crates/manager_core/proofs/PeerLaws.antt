@@ -76,6 +76,9 @@ pub peers_length : (k : ℕ) (ss : List Socket) → length (new_peers k ss) ≡ 
 peers_length k [] = refl
 peers_length k (x ∷ xs) = ap (λ (n : ℕ). suc n) (peers_length (k + 1) xs)
 
+pub peers_few : (ss : List Socket) → length ss ≤ 16 → length (new_peers 0 ss) ≤ 16
+peers_few ss few = let e = peers_length 0 ss in omega arith
+
 pub peers_numbered : (k : ℕ) (ss : List Socket) → NumberedFrom k (new_peers k ss)
 peers_numbered k [] = tt
 peers_numbered k (x ∷ xs) = (refl, peers_numbered (k + 1) xs)

@@ -19,11 +19,11 @@ use Rattle.manager_spec.specs.Manager.{leases_of, values_of}
 
 -- ---- no row has number 0
 
-HasNoZero : List Row → Type 0
+abbrev HasNoZero : List Row → Type 0
 HasNoZero rows = (row : Row) → row_at rows 0 ≡ Some row → ⊥
 
 -- the places are above 0
-Starts : List Placed → Type 0
+abbrev Starts : List Placed → Type 0
 Starts [] = Unit {0}
 Starts (c ∷ cs) = (0 < c.place) × Starts cs
 
@@ -76,15 +76,17 @@ all_above (row ∷ rows) e =
     let first = find_first (row.n == 0) row (row_at rows 0) e in
     rw (above_zero row first.0) (ap (λ (xs : List Row). row ∷ xs) (all_above rows first.1))
 
+due_by : {X : Type 0} (g : Row → List X) (phase : Phase) (row : Row) (rows : List Row) (b : Bool)
+    → in_phase phase row ≡ b → nat_lt 0 row.n ≡ true → (in_phase phase row ≡ false → g row ≡ [])
+    → flat_map g (rows_in rows phase 0) ≡ flat_map g rows
+    → flat_map g (rows_in (row ∷ rows) phase 0) ≡ flat_map g (row ∷ rows)
+due_by g phase row rows true is above other rest = rw (above, is) (ap (λ xs. g row ++ xs) rest)
+due_by g phase row rows false is above other rest = rw (above, is) (rw (other is) rest)
+
 pub due_in : {X : Type 0} (g : Row → List X) (phase : Phase) (rows : List Row)
     → ((row : Row) → in_phase phase row ≡ false → g row ≡ []) → row_at rows 0 ≡ None
     → flat_map g (rows_in rows phase 0) ≡ flat_map g rows
 due_in g phase [] others e = refl
-due_in g phase (row ∷ rows) others e = by (in_phase phase row) refl
-  where
-    first : ((row.n == 0) ≡ false) × (row_at rows 0 ≡ None)
-    first = find_first (row.n == 0) row (row_at rows 0) e
-
-    by : (b : Bool) → in_phase phase row ≡ b → flat_map g (rows_in (row ∷ rows) phase 0) ≡ flat_map g (row ∷ rows)
-    by true is = rw (above_zero row first.0, is) (ap (λ xs. g row ++ xs) (due_in g phase rows others first.1))
-    by false is = rw (above_zero row first.0, is) (rw (others row is) (due_in g phase rows others first.1))
+due_in g phase (row ∷ rows) others e =
+    let first = find_first (row.n == 0) row (row_at rows 0) e in
+    due_by g phase row rows _ refl (above_zero row first.0) (others row) (due_in g phase rows others first.1)

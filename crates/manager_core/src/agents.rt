@@ -18,7 +18,7 @@ use wire_core::{DropCause, Ip4, NoMemory, NodeId, Step};
 
 impl Manager {
     /// A row that answers a node.
-    #[tactic(auto, using(crate::proofs::TurnLaws::said_halved))]
+    #[tactic(auto, unfolding(crate::specs::Seen::halved, node_spec::specs::Steps::onto, node_spec::specs::Steps::turned))]
     fn answers(&self, to: NodeId, m: &Message) -> Result<Half, NoMemory>
         ensures { IfOk result (λ half.
             (self.now, half) ≡ halved self.now (goes_on (says self.now.lists (tell to m.now ∷ [])))) }
@@ -39,7 +39,7 @@ impl Manager {
     }
 
     /// A request joins the queue, unless it waits already or the queue is full.
-    #[tactic(auto, unfolding(manager_spec::specs::Agents::enqueue), using(crate::proofs::TurnLaws::quiet_halved))]
+    #[tactic(auto, unfolding(manager_spec::specs::Agents::enqueue, crate::specs::Seen::halved, node_spec::specs::Steps::onto, node_spec::specs::Steps::turned))]
     fn enqueue(&mut self, request: Request) -> Result<Half, NoMemory>
         ensures { IfOk result (λ half. (self.new, half) ≡ halved self.old (enqueue self.old.lists (command_of request))) }
     {

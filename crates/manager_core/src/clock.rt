@@ -1,4 +1,4 @@
-ghost use Rattle.std.specs.Prelude.{◌≡◌, ◌==◌, ◌++◌, false, true, not, filter, IfOk, OnOk};
+ghost use Rattle.std.specs.Prelude.{◌≡◌, ◌<◌, ◌++◌, false, true, IfOk, OnOk};
 ghost use Rattle.std.specs.List.{flat_map};
 ghost use Rattle.manager_core.specs.Seen.{halved, taken};
 ghost use Rattle.manager_spec.specs.Clock.{accept_again, lead_again, leads, on_tick, runs_for};
@@ -76,7 +76,7 @@ impl Manager {
     }
 
     /// It runs for election, where a ballot of its own fits.
-    #[tactic(auto, unfolding(crate::specs::Rows::ran, crate::specs::Log::Fits), using(crate::proofs::RowLaws::campaign_row, crate::proofs::Rooms::campaign_fits, crate::proofs::TurnLaws::quiet_taken, crate::proofs::Rooms::fits_room))]
+    #[tactic(auto, unfolding(crate::specs::Rows::ran, crate::specs::Log::Fits, node_spec::specs::Steps::onto, node_spec::specs::Steps::turned), using(crate::proofs::RowLaws::campaign_row, crate::proofs::Rooms::campaign_fits, crate::proofs::Rooms::fits_room))]
     fn runs(&mut self) -> Result<Step, NoMemory>
         requires sound { self.old.sound ≡ true }
         requires may { is_primary self.old.lists.memory.leader.stage ≡ false }
@@ -93,7 +93,7 @@ impl Manager {
 
     /// The time comes, in milliseconds. A primary leads on; another runs for election once it heard nothing for
     /// `lead_silent`.
-    #[tactic(auto, unfolding(manager_spec::specs::Clock::on_tick), using(crate::proofs::TurnLaws::stops_halved, crate::proofs::TurnLaws::goes_halved, crate::proofs::TurnLaws::quiet_taken))]
+    #[tactic(auto, unfolding(manager_spec::specs::Clock::on_tick, crate::specs::Seen::halved, node_spec::specs::Steps::onto, node_spec::specs::Steps::turned))]
     pub(crate) fn on_tick(&mut self, now: u64) -> Result<Half, NoMemory>
         requires { self.old.sound ≡ true }
         ensures { IfOk result (λ half. (self.new, half)

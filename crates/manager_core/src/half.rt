@@ -11,8 +11,7 @@ pub struct Half {
 
 /// A row without a proposal.
 pub fn stops(step: Step) -> Half
-    ensures step { result.step ≡ step }
-    ensures proposes { result.proposes ≡ false }
+    ensures { result ≡ record { step = step; proposes = false } }
 {
     Half {
         step,
@@ -22,8 +21,7 @@ pub fn stops(step: Step) -> Half
 
 /// A row that ends with the proposal.
 pub fn goes_on(step: Step) -> Half
-    ensures step { result.step ≡ step }
-    ensures proposes { result.proposes ≡ true }
+    ensures { result ≡ record { step = step; proposes = true } }
 {
     Half {
         step,

@@ -1,4 +1,4 @@
-ghost use Rattle.std.specs.Prelude.{◌≡◌, true, IfOk};
+ghost use Rattle.std.specs.Prelude.{◌≡◌, ◌<◌, true, IfOk};
 ghost use Rattle.manager_core.specs.Seen.{IsBelowFive, halved, taken, with_lists};
 ghost use Rattle.manager_spec.specs.ManagerTable.{from_agent, from_mux, from_replica, manager_half, manager_hears, manager_step, manager_takes, refuses};
 ghost use Rattle.manager_spec.specs.Proposal.{whole};
@@ -29,7 +29,7 @@ fn is_mux(sender: Who) -> bool
 
 impl Manager {
     /// The messages of replicas, from 0 to 4.
-    #[tactic(auto, using(crate::proofs::TurnLaws::stops_halved))]
+    #[tactic(auto, unfolding(crate::specs::Seen::halved, node_spec::specs::Steps::turned))]
     fn from_replica(&mut self, from: u8, m: &Message) -> Result<Half, NoMemory>
         requires sound { self.old.sound ≡ true }
         requires from { from < 5 }
@@ -158,7 +158,7 @@ impl Manager {
     /// What an input makes of a replica: its step, whose entry is to be durable before a datagram leaves. Every input is
     /// taken: one that is dropped leaves all as it was, and its cause is noted. Without memory it isn't to be used again,
     /// and where it isn't whole it says no more than that.
-    #[tactic(auto, unfolding(manager_spec::specs::ManagerTable::manager_step), using(crate::proofs::TurnLaws::stopped_whole, crate::proofs::TurnLaws::proposed_whole))]
+    #[tactic(auto, unfolding(manager_spec::specs::ManagerTable::manager_step, manager_spec::specs::Proposal::whole, crate::specs::Seen::halved, node_spec::specs::Steps::turned), using(crate::proofs::TurnLaws::proposed_onto))]
     pub fn handle(&mut self, input: &Input) -> Result<Step, NoMemory>
         ensures { IfOk result (λ step. (self.new, step) ≡ turned (with_lists self.old) self.old.config no_step
             (manager_step self.old.config self.old.lists (input_of input.now))) }

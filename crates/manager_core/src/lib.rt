@@ -44,3 +44,6 @@ mod saying;
 mod voting;
 
 pub use manager::Manager;
+
+#[cfg(test)]
+mod tests;

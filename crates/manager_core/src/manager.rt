@@ -119,11 +119,12 @@ impl Manager {
     }
 
     /// A row that only drops its datagram.
-    #[tactic(auto, using(crate::proofs::TurnLaws::stops_halved))]
+    #[tactic(auto, unfolding(crate::specs::Seen::halved, node_spec::specs::Steps::onto, node_spec::specs::Steps::turned))]
     pub(crate) fn refuses(&self, cause: DropCause) -> Result<Half, NoMemory>
         ensures { IfOk result (λ half. (self.now, half) ≡ halved self.now (stops (drop_turn self.now.lists cause))) }
     {
-        Ok(stops(self.drops(cause)?))
+        let step = self.drops(cause)?;
+        Ok(stops(step))
     }
 
     /// It takes a step of the agreement: the entry, the messages and the acts of what was learned are added. Answered

@@ -94,7 +94,7 @@ impl Manager {
     }
 
     /// A MuxHello comes.
-    #[tactic(auto, unfolding(manager_spec::specs::Muxes::on_hello), using(crate::proofs::TurnLaws::quiet_halved))]
+    #[tactic(auto, unfolding(manager_spec::specs::Muxes::on_hello, crate::specs::Seen::halved, node_spec::specs::Steps::onto, node_spec::specs::Steps::turned))]
     pub(crate) fn on_hello(&mut self, mux: u16, boot: u64, epoch: u64) -> Result<Half, NoMemory>
         ensures { IfOk result (λ half. (self.new, half)
             ≡ halved self.old (on_hello self.old.config self.old.lists mux boot epoch)) }
@@ -108,7 +108,7 @@ impl Manager {
     }
 
     /// A MuxRefuse comes.
-    #[tactic(auto, unfolding(manager_spec::specs::Muxes::on_mux_refuse), using(crate::proofs::TurnLaws::quiet_halved))]
+    #[tactic(auto, unfolding(manager_spec::specs::Muxes::on_mux_refuse, crate::specs::Seen::halved, node_spec::specs::Steps::onto, node_spec::specs::Steps::turned))]
     pub(crate) fn on_mux_refuse(&mut self, mux: u16, boot: u64, kept: u64) -> Result<Half, NoMemory>
         ensures { IfOk result (λ half. (self.new, half)
             ≡ halved self.old (on_mux_refuse self.old.config self.old.lists mux boot kept)) }
@@ -129,7 +129,7 @@ impl Manager {
     }
 
     /// A Programmed comes.
-    #[tactic(auto, unfolding(manager_spec::specs::Muxes::on_ack), using(crate::proofs::TurnLaws::quiet_halved))]
+    #[tactic(auto, unfolding(manager_spec::specs::Muxes::on_ack, crate::specs::Seen::halved, node_spec::specs::Steps::onto, node_spec::specs::Steps::turned))]
     pub(crate) fn on_programmed(&mut self, mux: u16, epoch: u64, boot: u64, n: u64) -> Result<Half, NoMemory>
         requires { self.old.sound ≡ true }
         ensures { IfOk result (λ half. (self.new, half)
@@ -146,7 +146,7 @@ impl Manager {
     }
 
     /// An Unprogrammed comes.
-    #[tactic(auto, unfolding(manager_spec::specs::Muxes::on_ack), using(crate::proofs::TurnLaws::quiet_halved))]
+    #[tactic(auto, unfolding(manager_spec::specs::Muxes::on_ack, crate::specs::Seen::halved, node_spec::specs::Steps::onto, node_spec::specs::Steps::turned))]
     pub(crate) fn on_unprogrammed(&mut self, mux: u16, epoch: u64, boot: u64, n: u64) -> Result<Half, NoMemory>
         requires { self.old.sound ≡ true }
         ensures { IfOk result (λ half. (self.new, half)

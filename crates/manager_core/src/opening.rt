@@ -46,7 +46,7 @@ fn recovered(alloc: Global, rules: LeaseRules, bodies: &[EntryBytes]) -> Result<
 }
 
 /// Each configured mux, of which nothing is known.
-#[tactic(auto, using(crate::proofs::PeerLaws::peers_next, crate::proofs::PeerLaws::peers_length, crate::proofs::PeerLaws::peers_numbered))]
+#[tactic(auto, using(crate::proofs::PeerLaws::peers_next, crate::proofs::PeerLaws::peers_few, crate::proofs::PeerLaws::peers_numbered))]
 fn unknown_peers(alloc: Global, sockets: &[Socket]) -> Result<Vec<Peer>, NoMemory>
     requires { length sockets.now ≤ 16 }
     ensures peers { IfOk result (λ peers. peers.items ≡ new_peers 0 sockets.now) }

@@ -3,7 +3,7 @@ ghost use Rattle.std.specs.List.{flat_map, list_all};
 ghost use Rattle.manager_core.specs.Seen.{NumberedFrom, with_lists};
 ghost use Rattle.manager_spec.specs.Known.{has_boot, is_acked, is_acked_ever, is_near};
 ghost use Rattle.manager_spec.specs.Manager.{agrees, leases};
-ghost use Rattle.manager_spec.specs.Proposal.{filled, first_due, freed_due, grant_due, holders, mux_boot, propose};
+ghost use Rattle.manager_spec.specs.Proposal.{filled, first_due, freed_due, grant_due, holders, is_granted, mux_boot, propose};
 ghost use Rattle.node_spec.specs.Steps.{turned};
 ghost use Rattle.paxos_spec.specs.Replica.{may_propose, on_offer};
 ghost use Rattle.wire_core.specs.Commands.{AscendsFrom};
@@ -55,12 +55,28 @@ pub fn is_near(cfg: &Config, time: u64, peer: &Peer) -> bool
 fn all_near_acked(cfg: &Config, time: u64, peers: &[Peer], boots: &[u64]) -> bool
     ensures { result ≡ list_all (is_acked boots.now) (filter (is_near cfg.now time) peers.now) }
 {
-    for peer in peers {
-        if is_near(cfg, time, peer) && !is_acked(boots, peer) {
-            return false;
-        }
-    }
-    true
+    peers
+        .iter()
+        .filter(|peer| is_near(cfg, time, *peer))
+        .all(|peer| is_acked(boots, peer))
+}
+
+/// Whether a boot of the mux is known.
+fn has_boot(peer: &Peer) -> bool
+    ensures { result ≡ has_boot peer.now }
+{
+    peer.boot > 0
+}
+
+/// How many muxes have the row in their known boot.
+fn count_holders(peers: &[Peer], boots: &[u64]) -> usize
+    ensures { result ≡ length (filter (is_acked boots.now) (filter has_boot peers.now)) }
+{
+    peers
+        .iter()
+        .filter(|peer| has_boot(*peer))
+        .filter(|peer| is_acked(boots, *peer))
+        .count()
 }
 
 /// Whether each mux acknowledged in some boot.
@@ -71,7 +87,6 @@ fn all_acked_ever(peers: &[Peer], boots: &[u64]) -> bool
 }
 
 /// The muxes that have the row in their known boot, with that boot.
-#[tactic(auto, using(crate::proofs::DueLaws::holders_ascend, crate::proofs::DueLaws::holders_few))]
 fn holders(alloc: Global, peers: &[Peer], marks: &Marks) -> Result<Vec<MuxBoot>, NoMemory>
     requires numbered { NumberedFrom 0 peers.now }
     requires few { length peers.now ≤ 16 }
@@ -93,24 +108,26 @@ fn holders(alloc: Global, peers: &[Peer], marks: &Marks) -> Result<Vec<MuxBoot>,
 }
 
 impl Manager {
+    /// Whether each mux that isn't silent has the row, and at least one mux has.
+    fn is_granted(&self, marks: &Marks) -> bool
+        ensures { result ≡ is_granted self.now.config self.now.lists marks.now }
+    {
+        let peers = self.muxes.as_slice();
+        let boots = marks.programmed.as_slice();
+        count_holders(peers, boots) > 0 && all_near_acked(&self.cfg, self.time, peers, boots)
+    }
+
     /// Granted, where the row is BeingLeased and muxes have it.
     #[tactic(auto, using(crate::proofs::DueLaws::no_holders))]
     fn add_grant(&self, value: &mut ValueBuilder, row: Row) -> Result<(), NoMemory>
         requires { length value.old < 16 }
         ensures { OnOk result (value.new ≡ value.old ++ grant_due self.now.config self.now.lists row) }
     {
-        if row.phase != Phase::BeingLeased {
-            return Ok(());
-        }
         let marks = marks_at(&self.acks, row.n);
-        let peers = self.muxes.as_slice();
-        if !all_near_acked(&self.cfg, self.time, peers, marks.programmed.as_slice()) {
+        if row.phase != Phase::BeingLeased || !self.is_granted(&marks) {
             return Ok(());
         }
-        let holders = holders(self.alloc, peers, &marks)?;
-        if holders.is_empty() {
-            return Ok(());
-        }
+        let holders = holders(self.alloc, self.muxes.as_slice(), &marks)?;
         value.push_granted(row.n, holders.as_slice())
     }
 

@@ -37,7 +37,7 @@ impl Manager {
     }
 
     /// The step of an Accepted: with an entry it is the third.
-    #[tactic(auto, unfolding(crate::specs::Rows::tallied, crate::specs::Log::Fits), using(crate::proofs::TurnLaws::stops_halved, crate::proofs::TurnLaws::goes_halved))]
+    #[tactic(auto, unfolding(crate::specs::Rows::tallied, crate::specs::Log::Fits, crate::specs::Seen::halved, node_spec::specs::Steps::turned))]
     fn tallied(&mut self, step: Option<ReplicaStep>) -> Result<Half, NoMemory>
         requires sound { self.old.sound ≡ true }
         requires fits { Fits self.old.lists.acceptor step }
@@ -48,9 +48,11 @@ impl Manager {
             return self.refuses(DropCause::Late);
         };
         if step.entry().is_some() {
-            Ok(goes_on(self.completes(step)?))
+            let out = self.completes(step)?;
+            Ok(goes_on(out))
         } else {
-            Ok(stops(self.agree(step)?))
+            let out = self.agree(step)?;
+            Ok(stops(out))
         }
     }
 
