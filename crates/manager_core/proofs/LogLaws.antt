@@ -1,5 +1,6 @@
 -- The table is that of the log.
-use Rattle.std.proofs.Common.{◌≡◌, refl, sym, ap, ◌∙◌, ◌++◌, ◌∷◌, [], map, List, ℕ, ◌+◌, Bool, true, false, if◌then◌else◌, length, nat_lt, Option, Some, None}
+use Rattle.std.proofs.Common.{◌≡◌, refl, sym, ap, ◌∙◌, ◌++◌, ◌∷◌, [], map, List, ℕ, ◌+◌, Bool, true, false}
+use Rattle.std.proofs.Common.{if◌then◌else◌, length, nat_lt, Option, Some, None}
 use Rattle.std.proofs.lemmas.List.{length-map, map-append, length-append}
 use Rattle.wire_core.specs.Commands.{LogCommand}
 use Rattle.wire_core.specs.declared.entry.Entry.{Entry}
@@ -22,13 +23,13 @@ tied_learned : (a : AcceptorState) (t : TableState) (ballot : ℕ) (value : List
     → nat_lt (reach a) most_slots ≡ true → Tied a t → Tied (follow a (entry.Learn ballot value)) (apply_slot t value).0
 unfolding leases_of
 tied_learned a t ballot value room tied =
-  let values : List (List LogCommand) = map (λ (x : Cast). x.value) a.log in
-  let long : length values ≡ t.slots = length-map a.log _ ∙ sym tied.slots in
-  let more : map (λ (x : Cast). x.value) (a.log ++ record { ballot = ballot; value = value } ∷ []) ≡ values ++ value ∷ [] = map-append _ a.log _ in
-  rw room (record {
-    leases = sym (ap (table t.rules) more ∙ (one_more t.rules values value).leaves ∙ ap (λ (s : ℕ). (apply t.rules (slot_commands s value) (table t.rules values)).leases) long ∙ ap (λ (l : Leases). (apply t.rules (slot_commands t.slots value) l).leases) (sym tied.leases));
-    slots = ap (λ (s : ℕ). s + 1) tied.slots ∙ sym (length-append a.log _);
-  })
+    let values : List (List LogCommand) = map (λ (x : Cast). x.value) a.log in
+    let long : length values ≡ t.slots = length-map a.log _ ∙ sym tied.slots in
+    let more : map (λ (x : Cast). x.value) (a.log ++ record { ballot = ballot; value = value } ∷ []) ≡ values ++ value ∷ [] = map-append _ a.log _ in
+    rw room (record {
+      leases = sym (ap (table t.rules) more ∙ (one_more t.rules values value).leaves ∙ ap (λ (s : ℕ). (apply t.rules (slot_commands s value) (table t.rules values)).leases) long ∙ ap (λ (l : Leases). (apply t.rules (slot_commands t.slots value) l).leases) (sym tied.leases));
+      slots = ap (λ (s : ℕ). s + 1) tied.slots ∙ sym (length-append a.log _);
+    })
 
 -- after an entry for which there is room
 pub tied_followed : (a : AcceptorState) (t : TableState) (e : Entry) → HasRoomFor (reach a) e → Tied a t

@@ -1,5 +1,6 @@
 -- What is known of muxes: they stand by their numbers.
-use Rattle.std.proofs.Common.{◌≡◌, ◌≤◌, ◌<◌, take, refl, sym, ap, ◌∙◌, ◌++◌, ℕ, zero, suc, ◌+◌, Bool, true, false, not, ◌&&◌, nat_lt, List, [], ◌∷◌, length, slice_set, arith}
+use Rattle.std.proofs.Common.{◌≡◌, ◌≤◌, ◌<◌, take, refl, sym, ap, ◌∙◌, ◌++◌, ℕ, zero, suc, ◌+◌, Bool, true, false}
+use Rattle.std.proofs.Common.{not, ◌&&◌, nat_lt, List, [], ◌∷◌, length, slice_set, arith}
 use Rattle.std.specs.Prelude.{if◌then◌else◌, fold, Result, Ok, Err}
 use Rattle.wire_core.specs.declared.entry.Entry.{Entry}
 use Rattle.wire_core.specs.declared.value.ValueFault.{ValueFault}

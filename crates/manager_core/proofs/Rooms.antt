@@ -1,5 +1,6 @@
 -- What is learned has room in the log.
-use Rattle.std.proofs.Common.{◌≡◌, refl, sym, ℕ, Bool, true, false, ◌&&◌, if◌then◌else◌, nat_lt, Option, Some, None, arith}
+use Rattle.std.proofs.Common.{◌≡◌, refl, sym, ℕ, Bool, true, false, ◌&&◌, if◌then◌else◌, nat_lt, Option, Some, None}
+use Rattle.std.proofs.Common.{arith}
 use Rattle.std.proofs.lemmas.Bool.Decides.{nat_tests}
 use Rattle.paxos_spec.specs.declared.cast.Cast.{Cast}
 use Rattle.paxos_spec.specs.declared.steps.PrepareStep.{PrepareStep}
@@ -16,8 +17,12 @@ use Rattle.paxos_spec.specs.Votes.{Value}
 use Rattle.paxos_spec.specs.Acceptor.{AcceptorState, reach, most_slots, prepare_step, accept_step, chosen_step}
 use Rattle.paxos_spec.specs.Leader.{LeaderState, lead_promise, lead_accepted, campaign, value_out}
 use Rattle.paxos_spec.specs.declared.mail.Body.TheVariants.{Refuse, Fetch}
-use Rattle.paxos_spec.specs.Replica.{Memory, Out, reply, quiet, with_goal, prepared, led, accepted, is_next, tallied_out, learned, fetched, campaigned, may_propose, on_prepare, on_promise, on_accept, on_accepted, on_refuse, on_chosen, on_campaign, on_offer}
-use Rattle.paxos_spec.specs.Events.{Replica, if_counts, with_seen, on_lead, step_at_promise, step_at_accept, step_at_accepted, step_at_refuse, step_at_chosen, step_at_fetch, step_at_campaign, step_at_offer}
+use Rattle.paxos_spec.specs.Replica.{Memory, Out, reply, quiet, with_goal, prepared, led, accepted, is_next}
+use Rattle.paxos_spec.specs.Replica.{tallied_out, learned, fetched, campaigned, may_propose, on_prepare, on_promise}
+use Rattle.paxos_spec.specs.Replica.{on_accept, on_accepted, on_refuse, on_chosen, on_campaign, on_offer}
+use Rattle.paxos_spec.specs.Events.{Replica, if_counts, with_seen, on_lead, step_at_promise, step_at_accept}
+use Rattle.paxos_spec.specs.Events.{step_at_accepted, step_at_refuse, step_at_chosen, step_at_fetch, step_at_campaign}
+use Rattle.paxos_spec.specs.Events.{step_at_offer}
 use Rattle.manager_spec.proofs.Choices.{by_if}
 use Rattle.manager_core.specs.Log.{HasRoom, HasRoomFor, Fits}
 

@@ -1,5 +1,6 @@
 -- Rows of the agreement, by the step that the event comes to.
-use Rattle.std.proofs.Common.{◌≡◌, refl, sym, ap, ◌∙◌, ℕ, zero, suc, Bool, true, false, not, ◌&&◌, List, [], ◌∷◌, length, nat_lt, Option, Some, None, arith}
+use Rattle.std.proofs.Common.{◌≡◌, refl, sym, ap, ◌∙◌, ℕ, zero, suc, Bool, true, false, not, ◌&&◌, List, [], ◌∷◌}
+use Rattle.std.proofs.Common.{length, nat_lt, Option, Some, None, arith}
 use Rattle.std.specs.Prelude.{if◌then◌else◌, max, ◌==◌, is_some, slice_get}
 use Rattle.std.proofs.lemmas.Bool.Decides.{nat_tests}
 use Rattle.wire_core.specs.declared.cause.DropCause.TheVariants.{Late}
@@ -16,17 +17,21 @@ use Rattle.paxos_spec.specs.declared.steps.Counted.TheVariants as tally
 use Rattle.paxos_spec.specs.Votes.{Value}
 use Rattle.paxos_spec.specs.Acceptor.{reach, accept_step, chosen_step}
 use Rattle.paxos_spec.specs.declared.cast.Proposal.{Proposal}
-use Rattle.paxos_spec.specs.Leader.{LeaderState, lead_promise, lead_accepted_of, lead_accepted, value_out, is_leading, is_primary, primary, with_counted, campaign}
+use Rattle.paxos_spec.specs.Leader.{LeaderState, lead_promise, lead_accepted_of, lead_accepted, value_out, is_leading}
+use Rattle.paxos_spec.specs.Leader.{is_primary, primary, with_counted, campaign}
 use Rattle.paxos_spec.specs.Five.{has, joined, how_many}
-use Rattle.paxos_spec.specs.Replica.{Memory, Out, is_next, tallied_by, tallied_out, on_fetch, campaigned_by, on_campaign}
+use Rattle.paxos_spec.specs.Replica.{Memory, Out, is_next, tallied_by, tallied_out, on_fetch, campaigned_by}
+use Rattle.paxos_spec.specs.Replica.{on_campaign}
 use Rattle.paxos_spec.specs.Replica as paxos
-use Rattle.paxos_spec.specs.Events.{if_counts, lead_counts, accept_counts, is_counted, chosen_counts, step_at_promise, step_at_accept, step_at_accepted, step_at_chosen, step_at_fetch, step_at_campaign}
+use Rattle.paxos_spec.specs.Events.{if_counts, lead_counts, accept_counts, is_counted, chosen_counts, step_at_promise}
+use Rattle.paxos_spec.specs.Events.{step_at_accept, step_at_accepted, step_at_chosen, step_at_fetch, step_at_campaign}
 use Rattle.paxos_spec.specs.Events as events
 use Rattle.node_spec.specs.Turns.{Turn, drop_turn}
 use Rattle.manager_spec.specs.Manager.{Manager, agrees, hears}
 use Rattle.manager_spec.specs.Proposal.{Half, stops, goes_on}
 use Rattle.manager_spec.specs.Leading.{is_late_promise, on_promise, on_lead}
-use Rattle.manager_spec.specs.Voting.{is_late_accept, on_accept, completes, counts, on_accepted, is_late_chosen, on_chosen, on_fetched}
+use Rattle.manager_spec.specs.Voting.{is_late_accept, on_accept, completes, counts, on_accepted, is_late_chosen}
+use Rattle.manager_spec.specs.Voting.{on_chosen, on_fetched}
 use Rattle.manager_core.specs.Seen.{part}
 use Rattle.manager_spec.specs.Clock.{runs_for}
 use Rattle.manager_core.specs.Rows.{counted, counted_heard, tallied, ran}

@@ -1,7 +1,8 @@
 ghost use Rattle.std.specs.Prelude.{◌≡◌, ◌∷◌, [], true, IfOk};
 ghost use Rattle.lease_spec.specs.Table.{last_of, row_at};
 ghost use Rattle.manager_core.specs.Seen.{command_of, halved};
-ghost use Rattle.manager_spec.specs.Agents.{answer_again, ask_after, deny_again, enqueue, grant_again, is_outstanding, on_agent_up, on_ask, on_return, return_of, returned};
+ghost use Rattle.manager_spec.specs.Agents.{answer_again, ask_after, deny_again, enqueue, grant_again};
+ghost use Rattle.manager_spec.specs.Agents.{is_outstanding, on_agent_up, on_ask, on_return, return_of, returned};
 ghost use Rattle.manager_spec.specs.Manager.{leases};
 ghost use Rattle.manager_spec.specs.Proposal.{goes_on};
 ghost use Rattle.node_spec.specs.Sends.{tell};
@@ -41,7 +42,8 @@ impl Manager {
     /// A request joins the queue, unless it waits already or the queue is full.
     #[tactic(auto, unfolding(manager_spec::specs::Agents::enqueue, crate::specs::Seen::halved, node_spec::specs::Steps::onto, node_spec::specs::Steps::turned))]
     fn enqueue(&mut self, request: Request) -> Result<Half, NoMemory>
-        ensures { IfOk result (λ half. (self.new, half) ≡ halved self.old (enqueue self.old.lists (command_of request))) }
+        ensures { IfOk result (λ half.
+            (self.new, half) ≡ halved self.old (enqueue self.old.lists (command_of request))) }
     {
         if self.queue.has(&request) || self.is_outstanding(&request) {
             return self.refuses(DropCause::Waiting);
@@ -107,7 +109,9 @@ impl Manager {
     {
         match outcome {
             Outcome::Reserved { n, .. } => self.grant_again(n),
-            Outcome::Exhausted { place } => self.deny_again(agent, boot, machine, seq, EXHAUSTED, place),
+            Outcome::Exhausted { place } => self.deny_again(
+                agent, boot, machine, seq, EXHAUSTED, place,
+            ),
             Outcome::AtLimit { count } => {
                 self.deny_again(agent, boot, machine, seq, AT_LIMIT, u64::from(count))
             }
@@ -128,7 +132,10 @@ impl Manager {
             machine,
             seq,
         };
-        let (Some((life, count)), Some(outcome)) = (self.log.last(machine), self.log.outcome(machine)) else {
+        let (Some((life, count)), Some(outcome)) = (
+            self.log.last(machine),
+            self.log.outcome(machine),
+        ) else {
             return self.enqueue(request);
         };
         if life < boot || (life == boot && count < seq) {
@@ -142,7 +149,13 @@ impl Manager {
 
     /// An Ask comes.
     #[tactic(auto, unfolding(manager_spec::specs::Agents::on_ask))]
-    pub(crate) fn on_ask(&mut self, agent: u16, boot: u64, machine: Ip4, seq: u64) -> Result<Half, NoMemory>
+    pub(crate) fn on_ask(
+        &mut self,
+        agent: u16,
+        boot: u64,
+        machine: Ip4,
+        seq: u64,
+    ) -> Result<Half, NoMemory>
         requires { self.old.sound ≡ true }
         ensures { IfOk result (λ half. (self.new, half)
             ≡ halved self.old (on_ask self.old.config self.old.lists agent boot machine seq)) }
@@ -168,7 +181,13 @@ impl Manager {
     }
 
     /// A Return by the row of its number.
-    fn return_of(&mut self, agent: u16, boot: u64, n: u64, row: Option<Row>) -> Result<Half, NoMemory>
+    fn return_of(
+        &mut self,
+        agent: u16,
+        boot: u64,
+        n: u64,
+        row: Option<Row>,
+    ) -> Result<Half, NoMemory>
         ensures { IfOk result (λ half. (self.new, half) ≡ halved self.old (return_of self.old.lists agent boot n row)) }
     {
         let Some(row) = row else {

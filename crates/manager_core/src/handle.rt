@@ -73,7 +73,9 @@ impl Manager {
             Message::MuxHello { boot, epoch } => self.on_hello(mux, *boot, *epoch),
             Message::MuxRefuse { boot, kept, .. } => self.on_mux_refuse(mux, *boot, *kept),
             Message::Programmed { epoch, boot, n } => self.on_programmed(mux, *epoch, *boot, *n),
-            Message::Unprogrammed { epoch, boot, n } => self.on_unprogrammed(mux, *epoch, *boot, *n),
+            Message::Unprogrammed { epoch, boot, n } => self.on_unprogrammed(
+                mux, *epoch, *boot, *n,
+            ),
             _ => self.refuses(DropCause::WrongRole),
         }
     }

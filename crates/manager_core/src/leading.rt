@@ -34,7 +34,10 @@ impl Manager {
         ensures { IfOk result (λ step. (self.new, step) ≡ taken self.old
             (on_promise self.old.config self.old.lists from ballot length (cast vote (option_copied value.entry)))) }
     {
-        let step = self.log.replica().on_promise(self.index, from, ballot, length, vote, value)?;
+        let step = self
+            .log
+            .replica()
+            .on_promise(self.index, from, ballot, length, vote, value)?;
         self.counted(step)
     }
 
@@ -74,7 +77,10 @@ impl Manager {
         ensures { IfOk result (λ step.
             (self.new, step) ≡ taken self.old (on_lead self.old.config self.old.lists from ballot length)) }
     {
-        let step = self.log.replica().on_lead(self.index, from, ballot, length)?;
+        let step = self
+            .log
+            .replica()
+            .on_lead(self.index, from, ballot, length)?;
         self.heard = self.heard_at(ballot);
         self.agree(step)
     }

@@ -4,7 +4,8 @@ ghost use Rattle.manager_core.specs.Log.{HasRoom, HasRoomFor, stepped, table_aft
 ghost use Rattle.manager_spec.specs.Manager.{effects_of, leases_of};
 ghost use Rattle.paxos_spec.specs.Acceptor.{follow, reach};
 ghost use Rattle.paxos_spec.specs.Events.{new_replica, on_epoch};
-ghost use Rattle.port_leases.specs.TableState.{onward_all, onward_in, outcome_of, pair_of, row_above, rows_above, rows_in};
+ghost use Rattle.port_leases.specs.TableState.{onward_all, onward_in, outcome_of, pair_of, row_above, rows_above};
+ghost use Rattle.port_leases.specs.TableState.{rows_in};
 
 use paxos_replica::{Replica, ReplicaStep};
 use port_leases::{EffectList, Outcome, Phase, Row, Table};
@@ -99,10 +100,12 @@ impl LeaseLog {
     /// Folds in an entry of the replica's journal.
     pub fn recover(&mut self, entry: &Entry) -> Result<(), NoMemory>
         requires { self.old.sound ≡ true }
-        ensures { OnOk result (self.new ≡ record self.old { replica = record {
-          acceptor = follow self.old.replica.acceptor entry.now;
-          memory = self.old.replica.memory;
-        } }) }
+        ensures { OnOk result (self.new ≡ record self.old {
+          replica = record {
+            acceptor = follow self.old.replica.acceptor entry.now;
+            memory = self.old.replica.memory;
+          };
+        }) }
     {
         self.sound = false;
         apply_again(self.alloc, &mut self.table, entry)?;
@@ -131,10 +134,12 @@ impl LeaseLog {
 
     /// This epoch was heard of. Where the replica leads or wants to at a lower ballot, it steps down.
     pub fn on_epoch(&mut self, epoch: u64)
-        ensures { self.new ≡ record self.old { replica = record {
-          acceptor = self.old.replica.acceptor;
-          memory = on_epoch self.old.replica.memory epoch;
-        } } }
+        ensures { self.new ≡ record self.old {
+          replica = record {
+            acceptor = self.old.replica.acceptor;
+            memory = on_epoch self.old.replica.memory epoch;
+          };
+        } }
     {
         self.replica.on_epoch(epoch);
     }

@@ -130,7 +130,13 @@ impl Manager {
 
     /// A Programmed comes.
     #[tactic(auto, unfolding(manager_spec::specs::Muxes::on_ack, crate::specs::Seen::halved, node_spec::specs::Steps::onto, node_spec::specs::Steps::turned))]
-    pub(crate) fn on_programmed(&mut self, mux: u16, epoch: u64, boot: u64, n: u64) -> Result<Half, NoMemory>
+    pub(crate) fn on_programmed(
+        &mut self,
+        mux: u16,
+        epoch: u64,
+        boot: u64,
+        n: u64,
+    ) -> Result<Half, NoMemory>
         requires { self.old.sound ≡ true }
         ensures { IfOk result (λ half. (self.new, half)
             ≡ halved self.old (on_ack self.old.config self.old.lists programmed_by mux epoch boot n)) }
@@ -147,7 +153,13 @@ impl Manager {
 
     /// An Unprogrammed comes.
     #[tactic(auto, unfolding(manager_spec::specs::Muxes::on_ack, crate::specs::Seen::halved, node_spec::specs::Steps::onto, node_spec::specs::Steps::turned))]
-    pub(crate) fn on_unprogrammed(&mut self, mux: u16, epoch: u64, boot: u64, n: u64) -> Result<Half, NoMemory>
+    pub(crate) fn on_unprogrammed(
+        &mut self,
+        mux: u16,
+        epoch: u64,
+        boot: u64,
+        n: u64,
+    ) -> Result<Half, NoMemory>
         requires { self.old.sound ≡ true }
         ensures { IfOk result (λ half. (self.new, half)
             ≡ halved self.old (on_ack self.old.config self.old.lists unprogrammed_by mux epoch boot n)) }

@@ -18,10 +18,12 @@ use wire_core::{BodyList, Entry, EntryBytes, LeaseRules, NoMemory, Socket};
 /// Folds in a body of the journal. One that spells no entry is passed over.
 fn recover_body(log: &mut LeaseLog, body: &EntryBytes) -> Result<(), NoMemory>
     requires { log.old.sound ≡ true }
-    ensures { OnOk result (log.new ≡ record log.old { replica = record {
-      acceptor = fold follow log.old.replica.acceptor (with_entry (read_entry body.now) []);
-      memory = log.old.replica.memory;
-    } }) }
+    ensures { OnOk result (log.new ≡ record log.old {
+      replica = record {
+        acceptor = fold follow log.old.replica.acceptor (with_entry (read_entry body.now) []);
+        memory = log.old.replica.memory;
+      };
+    }) }
 {
     match Entry::read(body.as_slice()) {
         Ok(entry) => log.recover(&entry),
@@ -46,7 +48,7 @@ fn recovered(alloc: Global, rules: LeaseRules, bodies: &[EntryBytes]) -> Result<
 }
 
 /// Each configured mux, of which nothing is known.
-#[tactic(auto, using(crate::proofs::PeerLaws::peers_next, crate::proofs::PeerLaws::peers_few, crate::proofs::PeerLaws::peers_numbered))]
+#[tactic(auto, using(crate::proofs::PeerLaws::peers_next, crate::proofs::PeerLaws::peers_numbered))]
 fn unknown_peers(alloc: Global, sockets: &[Socket]) -> Result<Vec<Peer>, NoMemory>
     requires { length sockets.now ≤ 16 }
     ensures peers { IfOk result (λ peers. peers.items ≡ new_peers 0 sockets.now) }
@@ -68,7 +70,12 @@ impl Manager {
     /// Opens replica `index`, from 0 to 4, by the bodies of its journal: its promise, its vote and its log are what its
     /// entries say, and it follows. A body that spells no entry is passed over. Applies each value of the log once.
     #[tactic(auto, unfolding(manager_spec::specs::Manager::opened_manager))]
-    pub fn recover(alloc: Global, cfg: &Config, index: u8, bodies: &BodyList) -> Result<Manager, NoMemory>
+    pub fn recover(
+        alloc: Global,
+        cfg: &Config,
+        index: u8,
+        bodies: &BodyList,
+    ) -> Result<Manager, NoMemory>
         requires { index < 5 }
         ensures { IfOk result (λ manager. manager ≡ record {
           config = cfg.now;

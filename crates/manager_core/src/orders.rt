@@ -3,7 +3,8 @@ ghost use Rattle.std.specs.List.{flat_map};
 ghost use Rattle.lease_spec.specs.Table.{row_at};
 ghost use Rattle.manager_spec.specs.Known.{has_boot, running};
 ghost use Rattle.manager_spec.specs.Manager.{leases};
-ghost use Rattle.manager_spec.specs.Orders.{after_effects, denied, grant_of, known, order_of, orders, orders_of, program, program_new, unprogram};
+ghost use Rattle.manager_spec.specs.Orders.{after_effects, denied, grant_of, known, order_of, orders, orders_of};
+ghost use Rattle.manager_spec.specs.Orders.{program, program_new, unprogram};
 ghost use Rattle.node_spec.specs.Sends.{tell};
 ghost use Rattle.node_spec.specs.Steps.{outgoing, turned, with_sends};
 ghost use Rattle.control_msg.specs.declared.message.Message.TheVariants.{Returned};
@@ -23,6 +24,7 @@ use wire_core::{Ip4, NoMemory, NodeId, Step};
 
 /// The reasons of a Denied: no range was free, or the machine had as many as it may.
 pub const EXHAUSTED: u8 = 1;
+
 pub const AT_LIMIT: u8 = 2;
 
 /// The muxes with a known boot are told that packets to the row's range go to its machine.
@@ -39,7 +41,13 @@ fn program_all(
 {
     for peer in peers {
         if peer.boot > 0 {
-            say(alloc, cfg, out, NodeId::Mux(peer.mux), &program(epoch, &row, peer))?;
+            say(
+                alloc,
+                cfg,
+                out,
+                NodeId::Mux(peer.mux),
+                &program(epoch, &row, peer),
+            )?;
         }
     }
     Ok(())
@@ -59,7 +67,13 @@ fn unprogram_all(
 {
     for peer in peers {
         if peer.boot > 0 {
-            say(alloc, cfg, out, NodeId::Mux(peer.mux), &unprogram(epoch, &row, peer))?;
+            say(
+                alloc,
+                cfg,
+                out,
+                NodeId::Mux(peer.mux),
+                &unprogram(epoch, &row, peer),
+            )?;
         }
     }
     Ok(())
@@ -164,7 +178,14 @@ impl Manager {
         match self.log.row(n) {
             Some(row) if row.phase == Phase::BeingLeased => {
                 let epoch = self.log.replica().ballot();
-                program_all(self.alloc, &self.cfg, out, epoch, self.muxes.as_slice(), row)
+                program_all(
+                    self.alloc,
+                    &self.cfg,
+                    out,
+                    epoch,
+                    self.muxes.as_slice(),
+                    row,
+                )
             }
             _ => Ok(()),
         }
@@ -182,7 +203,14 @@ impl Manager {
         };
         self.tell(out, NodeId::Agent(row.agent), &m)?;
         let epoch = self.log.replica().ballot();
-        unprogram_all(self.alloc, &self.cfg, out, epoch, self.muxes.as_slice(), row)
+        unprogram_all(
+            self.alloc,
+            &self.cfg,
+            out,
+            epoch,
+            self.muxes.as_slice(),
+            row,
+        )
     }
 
     /// An agent is told that its boot is known, where it is configured.
@@ -244,8 +272,8 @@ impl Manager {
     #[tactic(auto, using(node_spec::proofs::Turning::says_turned))]
     pub(crate) fn orders(&mut self, out: &mut Step, effects: &[Effect]) -> Result<(), NoMemory>
         requires { self.old.sound ≡ true }
-        ensures { OnOk result ((self.new, out.new)
-            ≡ turned (with_lists self.old) self.old.config out.old (orders self.old.config effects.now self.old.lists)) }
+        ensures { OnOk result ((self.new, out.new) ≡ turned (with_lists self.old) self.old.config out.old
+            (orders self.old.config effects.now self.old.lists)) }
     {
         self.say_orders(out, effects)?;
         forget(&mut self.acks, effects);

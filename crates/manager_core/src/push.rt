@@ -111,7 +111,15 @@ impl Manager {
             row,
             marks: marks_at(&self.acks, row.n),
         };
-        push_each(self.alloc, &self.cfg, out, &pushed, self.muxes.as_slice(), self.time, room)
+        push_each(
+            self.alloc,
+            &self.cfg,
+            out,
+            &pushed,
+            self.muxes.as_slice(),
+            self.time,
+            room,
+        )
     }
 
     /// The push: over rows by number and muxes by number, the first 64 messages. Looks at the rows until it has them.

@@ -68,7 +68,12 @@ fn message(body: &Body) -> Message<'_>
 
 /// Adds what is said, to each recipient.
 #[tactic(auto, using(crate::proofs::TurnLaws::mailed_each))]
-pub fn say_said(alloc: Global, cfg: &Config, out: &mut Step, said: Option<&Said>) -> Result<(), NoMemory>
+pub fn say_said(
+    alloc: Global,
+    cfg: &Config,
+    out: &mut Step,
+    said: Option<&Said>,
+) -> Result<(), NoMemory>
     ensures { OnOk result (out.new
         ≡ with_sends (flat_map (outgoing cfg.now) (map mailed (mails_of (option_copied said.entry)))) out.old) }
 {
@@ -93,7 +98,12 @@ fn write_entry(alloc: Global, out: &mut Step, step: &ReplicaStep) -> Result<(), 
 }
 
 /// Adds a step of the agreement: its entry and its messages.
-pub fn spell(alloc: Global, cfg: &Config, out: &mut Step, step: &ReplicaStep) -> Result<(), NoMemory>
+pub fn spell(
+    alloc: Global,
+    cfg: &Config,
+    out: &mut Step,
+    step: &ReplicaStep,
+) -> Result<(), NoMemory>
     ensures { OnOk result (out.new ≡ with_sends (flat_map (outgoing cfg.now) (map mailed step.now.sends))
         (with_entry (option_map body_of step.now.entry) out.old)) }
 {

@@ -2,8 +2,11 @@
 mod rows;
 
 use crate::Manager;
-use rows::{ASKS_AGAIN, ELECTS, FOLLOWS, GRANTS, IS_AT_LIMIT, IS_DEPOSED, IS_FREED, RESERVES, WAITS_FOR_BOTH};
 use port_leases::{Phase, Row};
+use rows::{
+    ASKS_AGAIN, ELECTS, FOLLOWS, GRANTS, IS_AT_LIMIT, IS_DEPOSED, IS_FREED, RESERVES,
+    WAITS_FOR_BOTH,
+};
 use std::alloc::Global;
 use std::collections::VecDeque;
 use std::test::Fail;
@@ -213,7 +216,12 @@ fn manager_socket(number: usize) -> Socket {
 }
 
 /// What a step says to managers.
-fn post(alloc: Global, flying: &mut VecDeque<Flying>, from: usize, step: &Step) -> Result<(), Fail> {
+fn post(
+    alloc: Global,
+    flying: &mut VecDeque<Flying>,
+    from: usize,
+    step: &Step,
+) -> Result<(), Fail> {
     for send in step.sends.as_slice() {
         if let Some(to) = number_of(send.to.ip) {
             let mut bytes = Vec::new(alloc);
@@ -282,13 +290,20 @@ fn hear(
 }
 
 /// The time comes to one manager.
-fn tick(alloc: Global, five: &mut [Manager], to: usize, now: u64, hears: [bool; 5]) -> Result<(), Fail> {
+fn tick(
+    alloc: Global,
+    five: &mut [Manager],
+    to: usize,
+    now: u64,
+    hears: [bool; 5],
+) -> Result<(), Fail> {
     let mut flying = VecDeque::new(alloc);
     feed(alloc, five, &mut flying, to, &Input::Tick { now })?;
     settle(alloc, five, &mut flying, hears)
 }
 
 const MUX: u32 = 0x0a09_0001;
+
 const AGENT: u32 = 0x0a08_0001;
 
 fn five(alloc: Global) -> Result<Vec<Manager>, Fail> {
@@ -322,7 +337,14 @@ fn stands(five: &[Manager]) -> [(u64, u64); 5] {
 /// A range is leased.
 fn first_range(alloc: Global, five: &mut [Manager]) -> Result<(), Fail> {
     for to in 0..5 {
-        hear(alloc, five, to, MUX, b"\x01\x01\x0f\0\0\0\0\0\0\0\x01\0\0\0\0\0\0\0\0", ALL)?;
+        hear(
+            alloc,
+            five,
+            to,
+            MUX,
+            b"\x01\x01\x0f\0\0\0\0\0\0\0\x01\0\0\0\0\0\0\0\0",
+            ALL,
+        )?;
     }
     tick(alloc, five, 0, 1000, ALL)?;
     hear(
@@ -347,7 +369,14 @@ fn first_range(alloc: Global, five: &mut [Manager]) -> Result<(), Fail> {
 /// election without manager 0, inherits that value, and once it is heard by manager 0 leases the range.
 fn second_range(alloc: Global, five: &mut [Manager]) -> Result<(), Fail> {
     let ask = b"\x01\x01\x08\0\0\0\0\0\0\0\x01\x0a\x01\0\x04\0\0\0\0\0\0\0\x02";
-    hear(alloc, five, 0, AGENT, ask, [false, true, false, false, false])?;
+    hear(
+        alloc,
+        five,
+        0,
+        AGENT,
+        ask,
+        [false, true, false, false, false],
+    )?;
     tick(alloc, five, 3, 3000, [false, true, true, true, true])?;
     tick(alloc, five, 3, 3500, ALL)?;
     hear(

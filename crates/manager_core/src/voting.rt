@@ -13,12 +13,21 @@ use wire_core::{DropCause, NoMemory, Step, Value};
 impl Manager {
     /// An Accept comes.
     #[tactic(auto, using(crate::proofs::Rooms::accept_fits, crate::proofs::RowLaws::accept_row))]
-    pub(crate) fn on_accept(&mut self, from: u8, ballot: u64, slot: u64, value: &Value) -> Result<Step, NoMemory>
+    pub(crate) fn on_accept(
+        &mut self,
+        from: u8,
+        ballot: u64,
+        slot: u64,
+        value: &Value,
+    ) -> Result<Step, NoMemory>
         requires { self.old.sound ≡ true }
         ensures { IfOk result (λ step.
             (self.new, step) ≡ taken self.old (on_accept self.old.config self.old.lists from ballot slot value.now)) }
     {
-        let step = self.log.replica().on_accept(self.index, from, ballot, slot, value)?;
+        let step = self
+            .log
+            .replica()
+            .on_accept(self.index, from, ballot, slot, value)?;
         self.counted_heard(step)
     }
 
@@ -64,18 +73,30 @@ impl Manager {
         ensures { IfOk result (λ half.
             (self.new, half) ≡ halved self.old (on_accepted self.old.config self.old.lists from ballot slot)) }
     {
-        let step = self.log.replica().on_accepted(self.index, from, ballot, slot)?;
+        let step = self
+            .log
+            .replica()
+            .on_accepted(self.index, from, ballot, slot)?;
         self.tallied(step)
     }
 
     /// A Chosen comes.
     #[tactic(auto, using(crate::proofs::Rooms::chosen_fits, crate::proofs::RowLaws::chosen_row))]
-    pub(crate) fn on_chosen(&mut self, from: u8, slot: u64, ballot: u64, value: &Value) -> Result<Step, NoMemory>
+    pub(crate) fn on_chosen(
+        &mut self,
+        from: u8,
+        slot: u64,
+        ballot: u64,
+        value: &Value,
+    ) -> Result<Step, NoMemory>
         requires { self.old.sound ≡ true }
         ensures { IfOk result (λ step.
             (self.new, step) ≡ taken self.old (on_chosen self.old.config self.old.lists from slot ballot value.now)) }
     {
-        let step = self.log.replica().on_chosen(self.index, from, slot, ballot, value)?;
+        let step = self
+            .log
+            .replica()
+            .on_chosen(self.index, from, slot, ballot, value)?;
         self.counted_heard(step)
     }
 
