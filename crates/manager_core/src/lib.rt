@@ -1,8 +1,8 @@
-//! A replica of the managers: what each datagram makes of it. Not whole yet: the opening, the proposal, the tick and the
-//! call that takes an input are open, so the rows are proved here and reached by nobody.
+//! A replica of the managers: what each datagram makes of it. Not whole yet: the proposal, the tick and the call
+//! that takes an input are open, so the rows are proved here and reached by nobody.
 //!
-//! [`Manager`] is seen as its configuration and its lists, as `manager_spec` has them. Each row is one equation with the
-//! table's.
+//! [`Manager`] is seen as its configuration and its lists, as `manager_spec` has them. [`Manager::recover`] opens
+//! it by the entries of its journal. Each row is one equation with the table's.
 //!
 //! | what comes | row | file |
 //! |---|---|---|
@@ -29,6 +29,7 @@ mod leading;
 mod log;
 mod manager;
 mod muxes;
+mod opening;
 mod orders;
 mod queue;
 mod saying;

@@ -1,0 +1,14 @@
+use Rattle.std.proofs.Common.{◌≡◌, true, drop, fold}
+use Rattle.node_spec.specs.Bodies.{entries_of}
+use Rattle.paxos_spec.specs.Acceptor.{new_acceptor, follow}
+use Rattle.paxos_spec.specs.Replica.{new_memory}
+use Rattle.manager_core.proofs.opening.recovered.Given as goal
+
+abbrev pub invariant-loop-body : goal.invariant-loop-body
+invariant-loop-body l = record {
+  rules : l.log.rules ≡ l.fn.rules;
+  sound : l.log.sound ≡ true;
+  memory : l.log.replica.memory ≡ new_memory;
+  acceptor : fold follow l.log.replica.acceptor (entries_of (drop l.body-index l.bodies))
+      ≡ fold follow new_acceptor (entries_of l.bodies);
+}
