@@ -50,7 +50,8 @@ each_filter P p (x ∷ xs) h = by (p x) (each_filter P p xs h.1)
 -- ---- one key
 
 module _ (key : Connection → FlowKey) where
-  own_append : (cs : List Connection) (d : Connection) → OwnKeys key cs → IsFree key (key d) cs → OwnKeys key (cs ++ d ∷ [])
+  own_append : (cs : List Connection) (d : Connection) → OwnKeys key cs → IsFree key (key d) cs
+      → OwnKeys key (cs ++ d ∷ [])
   own_append [] d h free = (tt, tt)
   own_append (c ∷ cs) d h free =
       (each_snoc (λ x. same_key (key c) (key x) ≡ false) cs d h.0 free.0, own_append cs d h.1 free.1)
@@ -63,8 +64,9 @@ module _ (key : Connection → FlowKey) where
       by true rest = (each_filter (λ d. same_key (key c) (key d) ≡ false) p cs h.0, rest)
       by false rest = rest
 
-  apart_map : (f : Connection → Connection) → ((c : Connection) → key (f c) ≡ key c) → (c : Connection) (cs : List Connection)
-      → Each (λ d. same_key (key c) (key d) ≡ false) cs → Each (λ d. same_key (key (f c)) (key d) ≡ false) (map f cs)
+  apart_map : (f : Connection → Connection) → ((c : Connection) → key (f c) ≡ key c)
+      → (c : Connection) (cs : List Connection) → Each (λ d. same_key (key c) (key d) ≡ false) cs
+      → Each (λ d. same_key (key (f c)) (key d) ≡ false) (map f cs)
   apart_map f same c [] h = tt
   apart_map f same c (d ∷ cs) h = (
     ap (λ k. same_key (key (f c)) k) (same d) ∙ ap (λ k. same_key k (key d)) (same c) ∙ h.0,
@@ -92,12 +94,14 @@ apart_filter p cs h = record {
 }
 
 -- an edit of one connection that keeps its keys
-pub apart_changed : (x : Connection) (f : Connection → Connection) → ((c : Connection) → private_key (f c) ≡ private_key c)
+pub apart_changed : (x : Connection) (f : Connection → Connection)
+    → ((c : Connection) → private_key (f c) ≡ private_key c)
     → ((c : Connection) → public_key (f c) ≡ public_key c) → (cs : List Connection) → KeysApart cs
     → KeysApart (changed x f cs)
 apart_changed x f inner outer cs h = record {
   private_keys = own_map private_key (at_private (private_key x) f)
-      (λ c. by_if (λ d. private_key d ≡ private_key c) (has_private (private_key x) c) (inner c) refl) cs h.private_keys;
+      (λ c. by_if (λ d. private_key d ≡ private_key c) (has_private (private_key x) c) (inner c) refl)
+      cs h.private_keys;
   public_keys = own_map public_key (at_private (private_key x) f)
       (λ c. by_if (λ d. public_key d ≡ public_key c) (has_private (private_key x) c) (outer c) refl) cs h.public_keys;
 }

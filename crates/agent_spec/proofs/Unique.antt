@@ -107,7 +107,8 @@ abbrev May : Traffic → Option (Turn Traffic) → Type 0
 May t None = Unit {0}
 May t (Some u) = Keeps t u
 
-new_inner : (now : ℕ) (key : FlowKey) (vip : Ip4) (chosen : ℕ × ℕ) → private_key (new_connection now key vip chosen) ≡ key
+new_inner : (now : ℕ) (key : FlowKey) (vip : Ip4) (chosen : ℕ × ℕ)
+    → private_key (new_connection now key vip chosen) ≡ key
 unfolding private_key
 new_inner now key vip chosen = refl
 
@@ -153,9 +154,12 @@ unfolding new_conn
 new_keeps c t p none None = λ h. h
 new_keeps c t p none (Some vip) =
     by_if (May t) (nat_le most (length t.conns)) (λ h. h)
-    (port_keeps c t vip p none (first_unused (is_used t.conns (key_of p) vip) (ports_of t.ranges.held (key_of p).src)) refl)
+    (port_keeps c t vip p none
+    (first_unused (is_used t.conns (key_of p) vip) (ports_of t.ranges.held (key_of p).src))
+    refl)
 
-entry_keeps : (c : ConfigParts) (t : Traffic) (p : List ℕ) → by_private (key_of p) t.conns ≡ None → (o : Option Connection)
+entry_keeps : (c : ConfigParts) (t : Traffic) (p : List ℕ) → by_private (key_of p) t.conns ≡ None
+    → (o : Option Connection)
     → May t (by_inbound c t p o)
 entry_keeps c t p none (Some x) = inbound_keeps c t x p
 entry_keeps c t p none None = new_keeps c t p none (snat_vip c.vips (key_of p).src)
@@ -422,6 +426,7 @@ unfolding agent_step
 step_keeps c a (Arrived from bytes) = datagram_keeps c a (heard c from bytes)
 step_keeps c a (Ticked now) = tick_keeps c a now
 
-pub opened_apart : (c : ConfigParts) (index : ℕ) (entries : List Entry) → KeysApart (opened_agent c index entries).traffic.conns
+pub opened_apart : (c : ConfigParts) (index : ℕ) (entries : List Entry)
+    → KeysApart (opened_agent c index entries).traffic.conns
 unfolding opened_agent
 opened_apart c index entries = record { private_keys = tt; public_keys = tt }

@@ -1,4 +1,5 @@
-ghost use Rattle.std.specs.Prelude.{◌≡◌, ◌<◌, ◌≤◌, ◌+◌, ◌++◌, ◌∷◌, [], drop, length, slice_get, option_map, IfOk, IfErr, IsOk, ◌↔◌};
+ghost use Rattle.std.specs.Prelude.{◌≡◌, ◌<◌, ◌≤◌, ◌+◌, ◌++◌, ◌∷◌, [], drop, length, slice_get, option_map, IfOk};
+ghost use Rattle.std.specs.Prelude.{IfErr, IsOk, ◌↔◌};
 
 use circular_buffer::HeapCircularBuffer;
 use std::alloc::Global;
@@ -41,8 +42,8 @@ impl HoldQueue {
         self.ring.len()
     }
 
-    /// Holds a packet as the newest, and answers how many are held then. The packet comes back exactly where 64 are held,
-    /// and the queue stays as it was.
+    /// Holds a packet as the newest, and answers how many are held then. The packet comes back exactly where 64 are
+    /// held, and the queue stays as it was.
     pub fn hold(&mut self, packet: Vec<u8>) -> Result<usize, Vec<u8>>
         ensures room { IsOk result ↔ (length self.old < 64) }
         ensures ok { IfOk result (λ count. count ≡ length self.old + 1) }

@@ -18,7 +18,8 @@ pub word_for_bytes : (w k a b c d e f g h : ℕ)
     → w ≡ a + 256 * b + 65536 * c + 16777216 * d + 4294967296 * (e + 256 * f + 65536 * g + 16777216 * h)
     → folded (256 * w + k) ≡ folded (256 * a + b + (256 * c + d + (256 * e + f + (256 * g + h + k))))
 word_for_bytes w k a b c d e f g h is =
-    folded_same _ _ (1 * b + 256 * c + 65537 * d + 16777472 * e + 4295032833 * f + 1099528405248 * g + 281479271743489 * h) (omega arith) (λ z. omega arith)
+    folded_same _ _ (1 * b + 256 * c + 65537 * d + 16777472 * e + 4295032833 * f + 1099528405248 * g + 281479271743489
+    * h) (omega arith) (λ z. omega arith)
 
 -- the two halves of a number in its place
 pub halves_for_word : (w k : ℕ) → folded (256 * (w % 4294967296 + w / 4294967296) + k) ≡ folded (256 * w + k)

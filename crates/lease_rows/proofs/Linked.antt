@@ -11,7 +11,7 @@ use Rattle.lease_spec.specs.Table.{row_at}
 use Rattle.lease_rows.specs.declared.links.Ends.{Ends}
 use Rattle.lease_rows.specs.declared.links.Link.{Link}
 use Rattle.lease_rows.specs.Entries.{RowsAbove, RowsAscend, RowsBelow}
-use Rattle.lease_rows.specs.Links.{IsLinked, ends_of, first_number, is_number, last_number, link_of, no_ends, number_after, number_before, numbers_of, with_next, with_previous}
+use Rattle.lease_rows.specs.Links.{IsLinked, ends_of, first_number, is_number, last_number, link_of, no_ends, number_after, number_before, numbers_of, with_next, with_previous, without_link}
 use Rattle.lease_rows.specs.Rows.{same_address}
 use Rattle.lease_rows.proofs.Indexed.{address_is, by_test, head_or_tail, number_found, without}
 use Rattle.lease_rows.proofs.Numbers.{AllOver, AllUnder, Rise, after_back, after_front, after_over, before_back, before_front, before_over, first_end, has, last_end, miss_first, miss_last, or_none, over_miss, under_miss}
@@ -247,6 +247,9 @@ module _ (rows : List Row) (row : Row) (ascend : RowsAscend rows) (below : RowsB
       subst (λ (y : ℕ). (if is_number y (last_number (numbers_of rows row.machine)) then option_map (with_next (Some row.n)) (link_of rows (Some x)) else link_of rows (Some x)) ≡ link_of (rows ++ row ∷ []) (Some x)) at
       (subst (λ (all : List Row). (if is_number x.n (last_number (numbers_of rows row.machine)) then option_map (with_next (Some row.n)) (link_of all (Some x)) else link_of all (Some x)) ≡ link_of (rows ++ row ∷ []) (Some x)) (append-nil rows)
       (subst (λ (o : Option ℕ). (if is_number x.n (last_number (numbers_of rows row.machine)) then option_map (with_next o) (link_of (rows ++ []) (Some x)) else link_of (rows ++ []) (Some x)) ≡ link_of (rows ++ row ∷ []) (Some x)) (ap first_number (numbers-here row)) kept))
+
+abbrev pub ends_to : Option ℕ → Option ℕ → Ends
+ends_to first last = record { first = first; last = last }
 
 -- what the code does where a row comes
 pub record Enlinks (n : ℕ) (machine : Ip4) (links links1 links2 : ℕ → Option Link) (ends ends2 : Ip4 → Option Ends) (before after : Ends) : Type 0 where
@@ -566,6 +569,20 @@ module _ (rows : List Row) (links links1 links2 links3 : ℕ → Option Link) (e
       subst (λ (k : ℕ). IsLinked (without k rows) links3 ends2) (sym number)
       (without_gone gone (subst (λ (k : ℕ). row_at rows k ≡ Some gone) number there) (subst (λ (k : ℕ). links k ≡ Some link) number is)
       (subst (λ (k : ℕ). Unlinks k link links links1 links2 links3 ends ends2 before after) number u))
+
+-- the ends that were, if any, without a link
+pub without_link-same : (link : Link) (ends ends2 : Ip4 → Option Ends)
+    → ((m : Ip4) → ends2 m ≡ (if same_address link.machine m then option_map (without_link link) (ends link.machine) else ends m))
+    → (m : Ip4) → ends2 m
+    ≡ (if same_address link.machine m
+    then option_map (λ _. without_link link (unwrap_or (ends link.machine) no_ends)) (ends link.machine)
+    else ends m)
+without_link-same link ends ends2 is m =
+    is m ∙ ap (λ (o : Option Ends). if same_address link.machine m then o else ends m) (by (ends link.machine))
+  where
+    by : (o : Option Ends) → option_map (without_link link) o ≡ option_map (λ _. without_link link (unwrap_or o no_ends)) o
+    by None = refl
+    by (Some e) = refl
 
 -- ---- the next number, from a link or from the ends
 

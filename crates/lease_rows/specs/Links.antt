@@ -1,6 +1,6 @@
 -- Each machine's rows as a chain: a row names the one before it and the one after it.
 use Rattle.std.specs.Prelude.{◌≡◌, ℕ, ◌==◌, Bool, false, nat_lt, List, [], ◌∷◌, Option, Some, None, find, unwrap_or, if◌then◌else◌}
-use Rattle.std.specs.Option.{option_or}
+use Rattle.std.specs.Option.{is_none, option_or}
 use Rattle.wire_core.specs.declared.address.Ip4.{Ip4}
 use Rattle.lease_spec.specs.declared.row.Row.{Row}
 use Rattle.lease_spec.specs.Table.{row_at}
@@ -66,3 +66,14 @@ with_next next link = record link { next = next }
 
 abbrev pub with_previous : Option ℕ → Link → Link
 with_previous previous link = record link { previous = previous }
+
+-- a machine's ends with one row more, after the others
+abbrev pub with_last : ℕ → Ends → Ends
+with_last n e = record { first = option_or e.first (Some n); last = Some n }
+
+-- a machine's ends without the row that had this place
+abbrev pub without_link : Link → Ends → Ends
+without_link link e = record {
+  first = if is_none link.previous then link.next else e.first;
+  last = if is_none link.next then link.previous else e.last;
+}

@@ -1,8 +1,6 @@
-ghost use Rattle.std.specs.Prelude.{ℕ, List, ◌≡◌, ◌<◌, ◌≤◌, ◌+◌, ◌*◌, ◌^◌, ◌-◌, ◌++◌, ◌∷◌, [], min, take, drop, length, find, map, filter, slice_set, vec_len, vec_capacity, OnOk};
-ghost use Rattle.std.specs.List.{list_any};
+ghost use Rattle.std.specs.Prelude.{ℕ, ◌≡◌, ◌<◌, ◌≤◌, ◌+◌, ◌*◌, ◌^◌, ◌-◌, ◌++◌, ◌∷◌, [], min, take, drop, length, find, map, filter, count_by, nat_lt, slice_set, vec_len, vec_capacity, OnOk};
 ghost use Rattle.lease_spec.specs.Table.{cleared};
-ghost use Rattle.lease_rows.specs.declared.entries.Entry as entry;
-ghost use Rattle.lease_rows.specs.Blocks.{IsBlocked, block_of, has_phase, is_in};
+ghost use Rattle.lease_rows.specs.Blocks.{Counts, IsBlocked, IsCountOf, IsFew, IsRecount, block_of, in_block, is_in, one, with_entry};
 ghost use Rattle.lease_rows.specs.Entries.{with_row};
 
 use crate::entries::Entry;
@@ -14,15 +12,22 @@ use wire_core::NoMemory;
 /// How many entries are one block.
 const BLOCK: usize = 64;
 
-/// Which phases the rows of a block are in.
+/// How many entries of a block have a row in each phase.
 #[derive(Clone, Copy, Debug, PartialEq, Eq)]
 pub struct Block {
-    pub being_leased: bool,
-    pub leased: bool,
-    pub freeing: bool,
+    pub being_leased: u8,
+    pub leased: u8,
+    pub freeing: u8,
 }
 
-/// Entries in order, and of each 64 which phases their rows are in: a search for a phase looks at no more than 128
+/// A block without entries.
+const EMPTY: Block = Block {
+    being_leased: 0,
+    leased: 0,
+    freeing: 0,
+};
+
+/// Entries in order, and of each 64 how many rows are in each phase: a search for a phase looks at no more than 128
 /// entries, and passes over the blocks without it.
 #[derive(Debug, Drop)]
 pub struct Blocks {
@@ -47,13 +52,61 @@ impl Model for Blocks {
 impl Block {
     /// Whether a row of the block is in this phase.
     fn has(self, phase: Phase) -> bool
-        ensures { result ≡ has_phase phase self }
+        ensures { result ≡ nat_lt 0 (in_block phase self) }
     {
         match phase {
-            Phase::BeingLeased => self.being_leased,
-            Phase::Leased => self.leased,
-            Phase::Freeing => self.freeing,
+            Phase::BeingLeased => self.being_leased > 0,
+            Phase::Leased => self.leased > 0,
+            Phase::Freeing => self.freeing > 0,
         }
+    }
+
+    /// The block after an entry of it changed.
+    fn changed(self, old: Entry, new: Entry) -> Block
+        requires { Counts old self }
+        ensures { IsRecount old new self result }
+    {
+        Block {
+            being_leased: recount(
+                self.being_leased,
+                is_in(old, Phase::BeingLeased),
+                is_in(new, Phase::BeingLeased),
+            ),
+            leased: recount(
+                self.leased,
+                is_in(old, Phase::Leased),
+                is_in(new, Phase::Leased),
+            ),
+            freeing: recount(
+                self.freeing,
+                is_in(old, Phase::Freeing),
+                is_in(new, Phase::Freeing),
+            ),
+        }
+    }
+
+    /// The block with one entry more.
+    fn with(self, entry: Entry) -> Block
+        requires { IsFew self }
+        ensures { result ≡ with_entry entry self }
+    {
+        Block {
+            being_leased: recount(self.being_leased, false, is_in(entry, Phase::BeingLeased)),
+            leased: recount(self.leased, false, is_in(entry, Phase::Leased)),
+            freeing: recount(self.freeing, false, is_in(entry, Phase::Freeing)),
+        }
+    }
+}
+
+/// A count of entries after one of them changed: whether that was counted, and whether it is.
+fn recount(count: u8, was: bool, is: bool) -> u8
+    requires { IsCountOf was count }
+    ensures { result + one was ≡ count + one is }
+{
+    match (was, is) {
+        (true, false) => count - 1,
+        (false, true) => count + 1,
+        _ => count,
     }
 }
 
@@ -71,11 +124,18 @@ fn is_in(entry: Entry, phase: Phase) -> bool
     }
 }
 
-/// Whether an entry has a row in this phase.
-fn any_in(entries: &[Entry], phase: Phase) -> bool
-    ensures { result ≡ list_any (is_in phase) entries.now }
+/// How many of these entries, at most 64, have a row in this phase.
+fn count_in(entries: &[Entry], phase: Phase) -> u8
+    requires { length entries.now ≤ 64 }
+    ensures { result ≡ count_by (is_in phase) entries.now }
 {
-    entries.iter().any(|entry| is_in(*entry, phase))
+    let mut count = 0;
+    for i in 0..entries.len() {
+        if is_in(entries[i], phase) {
+            count += 1;
+        }
+    }
+    count
 }
 
 /// The first entry with a row in this phase.
@@ -85,14 +145,15 @@ fn first_in(entries: &[Entry], phase: Phase) -> Option<Entry>
     entries.iter().copied().find(|entry| is_in(*entry, phase))
 }
 
-/// Which phases the rows of these entries are in.
+/// How many of these entries, at most 64, have a row in each phase.
 fn block_of(entries: &[Entry]) -> Block
+    requires { length entries.now ≤ 64 }
     ensures { result ≡ block_of entries.now }
 {
     Block {
-        being_leased: any_in(entries, Phase::BeingLeased),
-        leased: any_in(entries, Phase::Leased),
-        freeing: any_in(entries, Phase::Freeing),
+        being_leased: count_in(entries, Phase::BeingLeased),
+        leased: count_in(entries, Phase::Leased),
+        freeing: count_in(entries, Phase::Freeing),
     }
 }
 
@@ -114,35 +175,31 @@ fn block_at(entries: &[Entry], number: usize) -> Block
     block_of(part(entries, BLOCK * number, BLOCK))
 }
 
-/// The block of an entry that changed becomes what it is now.
-fn renew(blocks: &mut Vec<Block>, entries: &[Entry], i: usize)
-    requires { i < length entries.now }
-    ensures blocks { (es : List entry.Entry) (e : entry.Entry) → entries.now ≡ slice_set es i e
-        → IsBlocked blocks.old.items es → IsBlocked blocks.new.items entries.now }
+/// The block of an entry, as another one comes in its place.
+fn renew(blocks: &mut Vec<Block>, entries: &[Entry], i: usize, new: Entry)
+    requires within { i < length entries.now }
+    requires blocks { IsBlocked blocks.old.items entries.now }
+    ensures blocks { IsBlocked blocks.new.items (slice_set entries.now i new) }
     ensures len { vec_len blocks.new ≡ vec_len blocks.old }
     ensures room { vec_capacity blocks.new ≡ vec_capacity blocks.old }
 {
     let number = i / BLOCK;
-    if number < blocks.len() {
-        blocks[number] = block_at(entries, number);
-    }
+    blocks[number] = blocks[number].changed(entries[i], new);
 }
 
-/// The block of a new last entry becomes what it is now.
-fn extend(blocks: &mut Vec<Block>, entries: &[Entry])
-    requires some { 0 < length entries.now }
+/// The block of a new last entry.
+fn extend(blocks: &mut Vec<Block>, entries: &[Entry], new: Entry)
     requires room { vec_len blocks.old < vec_capacity blocks.old }
-    ensures blocks { (es : List entry.Entry) (e : entry.Entry) → entries.now ≡ es ++ e ∷ []
-        → IsBlocked blocks.old.items es → IsBlocked blocks.new.items entries.now }
+    requires blocks { IsBlocked blocks.old.items entries.now }
+    ensures blocks { IsBlocked blocks.new.items (entries.now ++ new ∷ []) }
     ensures len { vec_len blocks.new ≤ vec_len blocks.old + 1 }
     ensures room { vec_capacity blocks.new ≡ vec_capacity blocks.old }
 {
-    let number = (entries.len() - 1) / BLOCK;
-    let block = block_at(entries, number);
+    let number = entries.len() / BLOCK;
     if number < blocks.len() {
-        blocks[number] = block;
+        blocks[number] = blocks[number].with(new);
     } else {
-        blocks.push_reserved(block);
+        blocks.push_reserved(EMPTY.with(new));
     }
 }
 
@@ -227,8 +284,8 @@ impl Blocks {
         ensures small { length self.new.items < 2 ^ 63 }
         ensures room { self.old.room ≤ self.new.room + 1 }
     {
+        extend(&mut self.blocks, &self.entries, entry);
         self.entries.push_reserved(entry);
-        extend(&mut self.blocks, &self.entries);
     }
 
     /// Another entry in the place of one.
@@ -237,8 +294,8 @@ impl Blocks {
         ensures items { self.new.items ≡ slice_set self.old.items i entry }
         ensures room { self.new.room ≡ self.old.room }
     {
+        renew(&mut self.blocks, &self.entries, i, entry);
         self.entries[i] = entry;
-        renew(&mut self.blocks, &self.entries, i);
     }
 
     /// The agent's rows of lower boots are Freeing from now on.

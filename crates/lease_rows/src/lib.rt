@@ -6,7 +6,7 @@
 //! | module | what it keeps | found by |
 //! |---|---|---|
 //! | `entries` | a row and whether it stands; searches among entries in the order of their numbers | a binary search |
-//! | `blocks` | entries, and of each 64 which phases their rows are in | place, phase |
+//! | `blocks` | entries, and of each 64 how many rows are in each phase | place, phase |
 //! | `numbered` | these as rows; places are given up once half of them are without a row | number, phase |
 //! | `links` | each machine's rows as a chain: the one before and the one after | number, machine |
 //! | `rows` | the rows, the number on each range, each machine's count and chain | number, range, machine, phase |

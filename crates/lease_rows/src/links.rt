@@ -1,10 +1,9 @@
 ghost use Rattle.std.specs.Prelude.{ℕ, List, min, ◌≡◌, ◌<◌, ◌≤◌, ◌+◌, ◌++◌, ◌∷◌, [], ◌==◌, not, filter, nat_eq, Some, None, option_map, unwrap_or, IfSome, OnOk, if◌then◌else◌};
-ghost use Rattle.std.specs.Option.{is_none};
 ghost use Rattle.indexmap.specs.IndexMap.{get, spare};
 ghost use Rattle.lease_spec.specs.Table.{row_at};
 ghost use Rattle.lease_spec.specs.declared.row.Row as row;
 ghost use Rattle.lease_rows.specs.Entries.{RowsAscend, RowsBelow};
-ghost use Rattle.lease_rows.specs.Links.{IsLinked, is_number, no_ends, number_after, numbers_of, with_next, with_previous};
+ghost use Rattle.lease_rows.specs.Links.{IsLinked, is_number, no_ends, number_after, numbers_of, with_last, with_next, with_previous, without_link};
 ghost use Rattle.lease_rows.specs.Rows.{same_address};
 
 use indexmap::IndexMap;
@@ -29,6 +28,42 @@ pub struct Ends {
     pub last: Option<u64>,
 }
 
+/// The ends of a machine without rows.
+const NO_ENDS: Ends = Ends {
+    first: None,
+    last: None,
+};
+
+impl Ends {
+    /// With one more row, after the others.
+    fn with_last(self, n: u64) -> Ends
+        ensures { result ≡ with_last n self }
+    {
+        Ends {
+            first: self.first.or(Some(n)),
+            last: Some(n),
+        }
+    }
+
+    /// Without the row that had this place.
+    fn without_link(self, link: Link) -> Ends
+        ensures { result ≡ without_link link self }
+    {
+        Ends {
+            first: if link.previous.is_none() {
+                link.next
+            } else {
+                self.first
+            },
+            last: if link.next.is_none() {
+                link.previous
+            } else {
+                self.last
+            },
+        }
+    }
+}
+
 /// Each machine's rows, from one to the next.
 #[derive(Drop)]
 pub struct Links {
@@ -44,14 +79,11 @@ fn ends_of(ends: &IndexMap<Ip4, Ends>, machine: Ip4) -> Ends
 {
     match ends.get(&machine) {
         Some(ends) => *ends,
-        None => Ends {
-            first: None,
-            last: None,
-        },
+        None => NO_ENDS,
     }
 }
 
-/// The machine has these ends, and had others or none.
+/// The machine has these ends, and had none.
 fn put_ends(ends: &mut IndexMap<Ip4, Ends>, machine: Ip4, new: Ends)
     requires { 0 < spare ends.old }
     ensures ends { (m : Ip4) → get same_address ends.new m
@@ -61,16 +93,35 @@ fn put_ends(ends: &mut IndexMap<Ip4, Ends>, machine: Ip4, new: Ends)
     ends.insert(machine, new).unwrap();
 }
 
-/// The machine has these ends, where it had others.
-fn set_ends(ends: &mut IndexMap<Ip4, Ends>, machine: Ip4, new: Ends)
+/// One more row of the machine, after its others. Answers the number of the row before it.
+fn put_last(ends: &mut IndexMap<Ip4, Ends>, machine: Ip4, n: u64) -> Option<u64>
+    requires { 0 < spare ends.old }
+    ensures last { result ≡ (unwrap_or (get same_address ends.old machine) no_ends).last }
     ensures ends { (m : Ip4) → get same_address ends.new m
         ≡ (if same_address machine m
-        then option_map (λ _. new) (get same_address ends.old machine)
+        then Some (with_last n (unwrap_or (get same_address ends.old machine) no_ends))
+        else get same_address ends.old m) }
+    ensures room { spare ends.old ≤ spare ends.new + 1 }
+{
+    if let Some(ends) = ends.get_mut(&machine) {
+        let last = ends.last;
+        *ends = ends.with_last(n);
+        return last;
+    }
+    put_ends(ends, machine, NO_ENDS.with_last(n));
+    None
+}
+
+/// The machine's ends are without the row that had this place.
+fn cut(ends: &mut IndexMap<Ip4, Ends>, link: Link)
+    ensures ends { (m : Ip4) → get same_address ends.new m
+        ≡ (if same_address link.machine m
+        then option_map (without_link link) (get same_address ends.old link.machine)
         else get same_address ends.old m) }
     ensures room { spare ends.old ≤ spare ends.new }
 {
-    if let Some(ends) = ends.get_mut(&machine) {
-        *ends = new;
+    if let Some(ends) = ends.get_mut(&link.machine) {
+        *ends = ends.without_link(link);
     }
 }
 
@@ -83,12 +134,13 @@ fn put_link(links: &mut IndexMap<u64, Link>, n: u64, link: Link)
     links.insert(n, link).unwrap();
 }
 
-/// The row with this number has no place any more.
-fn drop_link(links: &mut IndexMap<u64, Link>, n: u64)
+/// The row with this number has no place any more. Answers the one that it had.
+fn take_link(links: &mut IndexMap<u64, Link>, n: u64) -> Option<Link>
+    ensures link { result ≡ get nat_eq links.old n }
     ensures links { (k : ℕ) → get nat_eq links.new k ≡ (if n == k then None else get nat_eq links.old k) }
     ensures room { spare links.old ≤ spare links.new }
 {
-    links.swap_remove(&n);
+    links.swap_remove(&n)
 }
 
 /// Another row comes after this one.
@@ -119,21 +171,6 @@ fn set_previous(links: &mut IndexMap<u64, Link>, at: Option<u64>, previous: Opti
             link.previous = previous;
         }
     }
-}
-
-/// The ends without the row that had this place.
-fn without_link(ends: Ends, link: Link) -> Ends
-    ensures first { result.first ≡ (if is_none link.previous then link.next else ends.first) }
-    ensures last { result.last ≡ (if is_none link.next then link.previous else ends.last) }
-{
-    let mut left = ends;
-    if link.previous.is_none() {
-        left.first = link.next;
-    }
-    if link.next.is_none() {
-        left.last = link.previous;
-    }
-    left
 }
 
 impl Links {
@@ -168,19 +205,14 @@ impl Links {
         ensures room { min (spare self.old.links) (spare self.old.ends)
             ≤ min (spare self.new.links) (spare self.new.ends) + 1 }
     {
-        let ends = ends_of(&self.ends, machine);
+        let previous = put_last(&mut self.ends, machine, n);
+        set_next(&mut self.links, previous, Some(n));
         let link = Link {
             machine,
-            previous: ends.last,
+            previous,
             next: None,
         };
-        set_next(&mut self.links, ends.last, Some(n));
         put_link(&mut self.links, n, link);
-        let ends = Ends {
-            first: ends.first.or(Some(n)),
-            last: Some(n),
-        };
-        put_ends(&mut self.ends, machine, ends);
     }
 
     /// The row with this number leaves.
@@ -192,14 +224,12 @@ impl Links {
         ensures room { min (spare self.old.links) (spare self.old.ends)
             ≤ min (spare self.new.links) (spare self.new.ends) }
     {
-        let Some(link) = self.links.get(&n).copied() else {
+        let Some(link) = take_link(&mut self.links, n) else {
             return;
         };
-        drop_link(&mut self.links, n);
         set_next(&mut self.links, link.previous, link.next);
         set_previous(&mut self.links, link.next, link.previous);
-        let ends = ends_of(&self.ends, link.machine);
-        set_ends(&mut self.ends, link.machine, without_link(ends, link));
+        cut(&mut self.ends, link);
     }
 
     /// The number of the machine's row with the least number above this one, if any, where it is found at once: where

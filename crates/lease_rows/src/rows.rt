@@ -60,6 +60,16 @@ fn count_of(counts: &IndexMap<Ip4, u32>, machine: Ip4) -> u32
     }
 }
 
+/// The machine has so many rows, and had none before.
+fn put_count(counts: &mut IndexMap<Ip4, u32>, machine: Ip4, count: u32)
+    requires { 0 < spare counts.old }
+    ensures count { (m : Ip4) → get same_address counts.new m
+        ≡ (if same_address machine m then Some count else get same_address counts.old m) }
+    ensures room { spare counts.old ≤ spare counts.new + 1 }
+{
+    counts.insert(machine, count).unwrap();
+}
+
 /// One more row of the machine.
 fn count_up(counts: &mut IndexMap<Ip4, u32>, machine: Ip4)
     requires room { 0 < spare counts.old }
@@ -70,8 +80,11 @@ fn count_up(counts: &mut IndexMap<Ip4, u32>, machine: Ip4)
         else get same_address counts.old m) }
     ensures room { spare counts.old ≤ spare counts.new + 1 }
 {
-    let count = count_of(counts, machine);
-    counts.insert(machine, count + 1).unwrap();
+    if let Some(count) = counts.get_mut(&machine) {
+        *count += 1;
+        return;
+    }
+    put_count(counts, machine, 1);
 }
 
 /// One row less of the machine.

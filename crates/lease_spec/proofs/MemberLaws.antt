@@ -1,5 +1,6 @@
 -- Each of a list, one of it, and the first that passes.
-use Rattle.std.proofs.Common.{◌≡◌, ◌⊎◌, inl, inr, Bool, true, false, List, [], ◌∷◌, ◌++◌, map, filter, Some, refl, subst, ap}
+use Rattle.std.proofs.Common.{◌≡◌, ◌⊎◌, inl, inr, Bool, true, false, List, [], ◌∷◌, ◌++◌, map, filter, Some, refl}
+use Rattle.std.proofs.Common.{subst, ap}
 use Rattle.std.specs.Prelude.{cond, find, if◌then◌else◌}
 use Rattle.wire_core.specs.Members.{In, Each}
 
@@ -20,7 +21,8 @@ each_from P [] f = tt
 each_from P (x ∷ xs) f = (f x (inl refl), each_from P xs (λ y i. f y (inr i)))
 
 -- each that passes, where what passes has it
-pub each_passing : {X : Type 0} (P : X → Type 0) (p : X → Bool) (xs : List X) → ((x : X) → In x xs → p x ≡ true → P x) → Each P (filter p xs)
+pub each_passing : {X : Type 0} (P : X → Type 0) (p : X → Bool) (xs : List X) → ((x : X) → In x xs → p x ≡ true → P x)
+    → Each P (filter p xs)
 each_passing P p [] f = tt
 each_passing P p (x ∷ xs) f = by (p x) refl (each_passing P p xs (λ y i e. f y (inr i) e))
   where
@@ -46,7 +48,8 @@ in_right (z ∷ zs) ys x i = inr (in_right zs ys x i)
 
 pub in_cases : {X : Type 0} (xs ys : List X) (x : X) → In x (xs ++ ys) → In x xs ⊎ In x ys
 in_cases [] ys x i = inr i
-in_cases (z ∷ zs) ys x i = elim i [ inl e ↦ inl (inl e) | inr j ↦ elim (in_cases zs ys x j) [ inl k ↦ inl (inr k) | inr k ↦ inr k ] ]
+in_cases (z ∷ zs) ys x i =
+    elim i [ inl e ↦ inl (inl e) | inr j ↦ elim (in_cases zs ys x j) [ inl k ↦ inl (inr k) | inr k ↦ inr k ] ]
 
 pub in_map : {X Y : Type 0} (f : X → Y) (xs : List X) (x : X) → In x xs → In (f x) (map f xs)
 in_map f [] x i = absurd i
@@ -56,12 +59,15 @@ pub in_filter : {X : Type 0} (p : X → Bool) (xs : List X) (x : X) → In x xs 
 in_filter p [] x i t = absurd i
 in_filter p (y ∷ ys) x i t = by (p y) refl i (λ j. in_filter p ys x j t)
   where
-    by : (b : Bool) → p y ≡ b → In x (y ∷ ys) → (In x ys → In x (filter p ys)) → In x (cond b (y ∷ filter p ys) (filter p ys))
+    by : (b : Bool) → p y ≡ b → In x (y ∷ ys) → (In x ys → In x (filter p ys))
+        → In x (cond b (y ∷ filter p ys) (filter p ys))
     by true is i rest = elim i [ inl e ↦ inl e | inr j ↦ inr (rest j) ]
-    by false is i rest = elim i [ inl e ↦ absurd (let a : p x ≡ false = subst (λ z. p z ≡ false) e is in cc) | inr j ↦ rest j ]
+    by false is i rest =
+        elim i [ inl e ↦ absurd (let a : p x ≡ false = subst (λ z. p z ≡ false) e is in cc) | inr j ↦ rest j ]
 
 -- both ways of a choice
-pub by_if : {X : Type 0} (P : X → Type 0) (b : Bool) {x y : X} → (b ≡ true → P x) → (b ≡ false → P y) → P (if b then x else y)
+pub by_if : {X : Type 0} (P : X → Type 0) (b : Bool) {x y : X} → (b ≡ true → P x) → (b ≡ false → P y)
+    → P (if b then x else y)
 by_if P true f g = f refl
 by_if P false f g = g refl
 

@@ -15,12 +15,15 @@ use Rattle.lease_spec.specs.declared.effect.Effect.{Effect}
 use Rattle.lease_spec.specs.declared.effect.Effect.TheVariants as effect
 use Rattle.lease_spec.specs.Places.{Placed}
 use Rattle.lease_spec.specs.Free.{least_free}
-use Rattle.lease_spec.specs.Table.{Leases, Last, Done, command, rule_of, reserve, decide, raise_known, grant, release, free, up, row_at, is_freeing, is_being, take_range, known_boot, last_of, is_later, row_count, put}
+use Rattle.lease_spec.specs.Table.{Leases, Last, Done, command, rule_of, reserve, decide, raise_known, grant, release}
+use Rattle.lease_spec.specs.Table.{free, up, row_at, is_freeing, is_being, take_range, known_boot, last_of, is_later}
+use Rattle.lease_spec.specs.Table.{row_count, put}
 use Rattle.lease_spec.specs.Truths.{CameTo, OutcomesTold}
 use Rattle.lease_spec.proofs.MemberLaws.{each_on, in_left, in_right, by_if}
 use Rattle.lease_spec.proofs.CauseLaws.{story_of}
 
-pub each_put : {X : Type 0} (P : X → Type 0) (same : X → Bool) (x : X) (xs : List X) → P x → Each P xs → Each P (put same x xs)
+pub each_put : {X : Type 0} (P : X → Type 0) (same : X → Bool) (x : X) (xs : List X) → P x → Each P xs
+    → Each P (put same x xs)
 each_put P same x [] p h = (p, tt)
 each_put P same x (y ∷ ys) p h = by_if (Each P) (same y) (λ _. (p, h.1)) (λ _. (h.0, each_put P same x ys p h.1))
 
@@ -48,29 +51,42 @@ Tells es e = Told (es ++ e.effects) e.leases
 
 raise_tells : (es : List Effect) (agent boot : ℕ) (t : Leases) → Told es t → Tells es (raise_known agent boot t)
 unfolding raise_known
-raise_tells es agent boot t h = by_if (Tells es) (nat_lt (known_boot t.known agent) boot) (λ _. told_more es _ t h) (λ _. told_more es [] t h)
+raise_tells es agent boot t h =
+    by_if (Tells es) (nat_lt (known_boot t.known agent) boot) (λ _. told_more es _ t h) (λ _. told_more es [] t h)
 
-take_tells : (es : List Effect) (place agent boot : ℕ) (machine : Ip4) (seq : ℕ) (t : Leases) (o : Option Range) → Told es t
+take_tells : (es : List Effect) (place agent boot : ℕ) (machine : Ip4) (seq : ℕ) (t : Leases) (o : Option Range)
+    → Told es t
     → Tells es (take_range place agent boot machine seq t o)
 take_tells es place agent boot machine seq t None h =
     each_put _ _ _ t.lasts (in_right es _ _ (inl refl)) (told_more es _ t h)
 take_tells es place agent boot machine seq t (Some range) h =
     each_put _ _ _ t.lasts
-    (record { born = _; birth = record { number = refl; done = in_right es _ _ (inl refl) }; range_is = refl; machine = refl; boot = refl; seq = refl })
+    (record {
+      born = _;
+      birth = record { number = refl; done = in_right es _ _ (inl refl) };
+      range_is = refl;
+      machine = refl;
+      boot = refl;
+      seq = refl;
+    })
     (told_more es _ t h)
 
-decide_tells : (rules : LeaseRules) (es : List Effect) (place boot : ℕ) (rule : MachineRule) (seq : ℕ) (t : Leases) → Told es t
+decide_tells : (rules : LeaseRules) (es : List Effect) (place boot : ℕ) (rule : MachineRule) (seq : ℕ) (t : Leases)
+    → Told es t
     → Tells es (decide rules place boot rule seq t)
 unfolding decide
 decide_tells rules es place boot rule seq t h = by_if (Tells es) (nat_le rules.limit (row_count t.rows rule.machine))
     (λ _. each_put _ _ _ t.lasts (in_right es _ _ (inl refl)) (told_more es _ t h))
     (λ _. take_tells es place rule.agent boot rule.machine seq t (least_free rules t.rows rule.vip) h)
 
-reserve_tells : (rules : LeaseRules) (es : List Effect) (place agent boot seq : ℕ) (o : Option MachineRule) (t : Leases) → Told es t
+reserve_tells : (rules : LeaseRules) (es : List Effect) (place agent boot seq : ℕ) (o : Option MachineRule) (t : Leases)
+    → Told es t
     → Tells es (reserve rules place agent boot seq o t)
 unfolding reserve
 reserve_tells rules es place agent boot seq None t h = told_more es [] t h
-reserve_tells rules es place agent boot seq (Some rule) t h = by_if (Tells es) ((rule.agent == agent) && nat_le (known_boot t.known agent) boot && is_later boot seq (last_of t.lasts rule.machine))
+reserve_tells rules es place agent boot seq (Some rule) t h =
+    by_if (Tells es) ((rule.agent == agent) && nat_le (known_boot t.known agent) boot
+    && is_later boot seq (last_of t.lasts rule.machine))
     (λ _. let one : Done = raise_known agent boot t in
     let two : Done = decide rules place boot rule seq one.leases in
     let told : Told ((es ++ one.effects) ++ two.effects) two.leases =
@@ -81,29 +97,35 @@ reserve_tells rules es place agent boot seq (Some rule) t h = by_if (Tells es) (
 grant_tells : (es : List Effect) (t : Leases) (o : Option Row) → Told es t → Tells es (grant t o)
 unfolding grant
 grant_tells es t None h = told_more es [] t h
-grant_tells es t (Some row) h = by_if (Tells es) (is_being row.phase) (λ _. told_more es _ t h) (λ _. told_more es [] t h)
+grant_tells es t (Some row) h =
+    by_if (Tells es) (is_being row.phase) (λ _. told_more es _ t h) (λ _. told_more es [] t h)
 
 release_tells : (es : List Effect) (t : Leases) (o : Option Row) → Told es t → Tells es (release t o)
 unfolding release
 release_tells es t None h = told_more es [] t h
-release_tells es t (Some row) h = by_if (Tells es) (not (is_freeing row.phase)) (λ _. told_more es _ t h) (λ _. told_more es [] t h)
+release_tells es t (Some row) h =
+    by_if (Tells es) (not (is_freeing row.phase)) (λ _. told_more es _ t h) (λ _. told_more es [] t h)
 
 free_tells : (es : List Effect) (t : Leases) (o : Option Row) → Told es t → Tells es (free t o)
 unfolding free
 free_tells es t None h = told_more es [] t h
-free_tells es t (Some row) h = by_if (Tells es) (is_freeing row.phase) (λ _. told_more es _ t h) (λ _. told_more es [] t h)
+free_tells es t (Some row) h =
+    by_if (Tells es) (is_freeing row.phase) (λ _. told_more es _ t h) (λ _. told_more es [] t h)
 
 up_tells : (es : List Effect) (agent boot : ℕ) (t : Leases) → Told es t → Tells es (up agent boot t)
 unfolding up
 up_tells es agent boot t h = by_if (Tells es) (nat_lt agent 256 && nat_lt (known_boot t.known agent) boot)
     (λ _. let first : List Effect = effect.Known agent boot ∷ [] in
     let one : Done = raise_known agent boot t in
-    let told : Told ((es ++ first) ++ one.effects) one.leases = raise_tells (es ++ first) agent boot t (told_more es first t h) in
+    let told : Told ((es ++ first) ++ one.effects) one.leases =
+    raise_tells (es ++ first) agent boot t (told_more es first t h) in
     rw (← append_assoc es first one.effects) told)
     (λ _. told_more es [] t h)
 
-command_tells : (rules : LeaseRules) (es : List Effect) (place : ℕ) (c : LogCommand) (t : Leases) → Told es t → Tells es (command rules place c t)
-command_tells rules es place (Reserve agent boot machine seq) t h = reserve_tells rules es place agent boot seq (rule_of rules machine) t h
+command_tells : (rules : LeaseRules) (es : List Effect) (place : ℕ) (c : LogCommand) (t : Leases) → Told es t
+    → Tells es (command rules place c t)
+command_tells rules es place (Reserve agent boot machine seq) t h =
+    reserve_tells rules es place agent boot seq (rule_of rules machine) t h
 command_tells rules es place (Granted n muxes) t h = grant_tells es t (row_at t.rows n) h
 command_tells rules es place (Release n) t h = release_tells es t (row_at t.rows n) h
 command_tells rules es place (Freed n) t h = free_tells es t (row_at t.rows n) h

@@ -1,5 +1,6 @@
 -- Each row is one step of the agreement: rows of replicas and of the clock.
-use Rattle.std.proofs.Common.{◌≡◌, ◌≤◌, refl, ℕ, true, false, Bool, List, [], ◌++◌, Option, Some, None, sym, ap, ◌∙◌, max, subst, arith}
+use Rattle.std.proofs.Common.{◌≡◌, ◌≤◌, refl, ℕ, true, false, Bool, List, [], ◌++◌, Option, Some, None, sym, ap, ◌∙◌}
+use Rattle.std.proofs.Common.{max, subst, arith}
 use Rattle.std.specs.Prelude.{length, if◌then◌else◌, not, ◌&&◌, ◌==◌, nat_lt, nat_le, ◌-◌}
 use Rattle.std.specs.List.{flat_map}
 use Rattle.std.proofs.lemmas.List.{append-nil}
@@ -26,8 +27,10 @@ use Rattle.paxos_spec.specs.declared.steps.Counted.TheVariants as counted
 use Rattle.paxos_spec.specs.Votes.{Value, cast, value_of}
 use Rattle.paxos_spec.specs.Five.{has, joined, how_many}
 use Rattle.paxos_spec.specs.Acceptor.{AcceptorState, reach, kept, accept_step, chosen_step}
-use Rattle.paxos_spec.specs.Leader.{LeaderState, is_candidate, is_follower, is_primary, value_out, Tally, tallied, with_tally, third_promise, arrive, lead_promise, lead_accepted, campaign}
-use Rattle.paxos_spec.specs.Replica.{Memory, Out, quiet as still, mail, reply, with_leader, is_next, led as promise_led, accept_out, tallied_out, campaigned, on_message, on_campaign, on_fetch, on_offer}
+use Rattle.paxos_spec.specs.Leader.{LeaderState, is_candidate, is_follower, is_primary, value_out, Tally, tallied}
+use Rattle.paxos_spec.specs.Leader.{with_tally, third_promise, arrive, lead_promise, lead_accepted, campaign}
+use Rattle.paxos_spec.specs.Replica.{Memory, Out, quiet as still, with_leader, is_next, led as promise_led}
+use Rattle.paxos_spec.specs.Replica.{accept_out, tallied_out, campaigned, on_message, on_campaign, on_fetch}
 use Rattle.paxos_spec.specs.Replica as paxos
 use Rattle.node_spec.specs.Sends.{Send, tell, others}
 use Rattle.wire_core.specs.declared.node.NodeId.TheVariants.{Replica}
@@ -37,7 +40,8 @@ use Rattle.manager_spec.specs.Known.{running}
 use Rattle.manager_spec.specs.Orders.{orders, push}
 use Rattle.manager_spec.specs.Proposal.{Half, stops, goes_on}
 use Rattle.manager_spec.specs.Leading.{on_prepare, is_late_promise, on_promise, on_refuse, led, on_lead}
-use Rattle.manager_spec.specs.Voting.{is_late_accept, on_accept, completes, counts, on_accepted, is_late_chosen, on_chosen, on_fetched}
+use Rattle.manager_spec.specs.Voting.{is_late_accept, on_accept, completes, counts, on_accepted, is_late_chosen}
+use Rattle.manager_spec.specs.Voting.{on_chosen, on_fetched}
 use Rattle.manager_spec.specs.Clock.{lead_again, accept_again, leads, emptied, runs_for, ticks, on_tick}
 use Rattle.manager_spec.specs.Agreement.{mails_in, tick_step, IsStep}
 use Rattle.manager_spec.proofs.Choices.{by_if, by_both}

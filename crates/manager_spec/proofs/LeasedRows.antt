@@ -24,13 +24,16 @@ use Rattle.manager_spec.specs.Manager.{Manager, leases}
 use Rattle.manager_spec.specs.Known.{peer, hear_mux, marks_at, set_marks}
 use Rattle.manager_spec.specs.Orders.{grant_of}
 use Rattle.manager_spec.specs.Proposal.{Half, stops, goes_on, first_due, filled, propose}
-use Rattle.manager_spec.specs.Muxes.{see_epoch, hear_epoch, on_hello, on_mux_refuse, programmed_by, unprogrammed_by, on_ack}
-use Rattle.manager_spec.specs.Agents.{is_waiting, most_queued, enqueue, grant_again, answer_again, ask_after, is_agents, on_ask, returned, return_of, on_return, on_agent_up}
+use Rattle.manager_spec.specs.Muxes.{see_epoch, hear_epoch, on_hello, on_mux_refuse, programmed_by, unprogrammed_by}
+use Rattle.manager_spec.specs.Muxes.{on_ack}
+use Rattle.manager_spec.specs.Agents.{is_waiting, most_queued, enqueue, grant_again, answer_again, ask_after, is_agents}
+use Rattle.manager_spec.specs.Agents.{on_ask, returned, return_of, on_return, on_agent_up}
 use Rattle.manager_spec.specs.ManagerTable.{from_replica, from_mux, from_agent, manager_hears}
 use Rattle.manager_spec.specs.Agreement.{mux_memory, replica_step, message_step, proposed, proposal_step, IsStep}
 use Rattle.manager_spec.proofs.Choices.{by_if, by_both}
 use Rattle.manager_spec.proofs.Own.{offer_own}
-use Rattle.manager_spec.proofs.AgreedRows.{agrees_is, quiet_is, drops_is, says_is, same_step, prepare_is, promise_is, refuse_is, lead_is, accept_is, accepted_is, chosen_is, fetch_is}
+use Rattle.manager_spec.proofs.AgreedRows.{agrees_is, quiet_is, drops_is, says_is, same_step, prepare_is, promise_is}
+use Rattle.manager_spec.proofs.AgreedRows.{refuse_is, lead_is, accept_is, accepted_is, chosen_is, fetch_is}
 
 -- ---- muxes
 

@@ -17,7 +17,8 @@ use Rattle.node_spec.specs.Sends.{Send}
 use Rattle.manager_spec.specs.declared.peer.Peer.{Peer}
 use Rattle.manager_spec.specs.Manager.{Manager, message_of, mailed}
 use Rattle.manager_spec.specs.Known.{near, marks_at, is_acked}
-use Rattle.manager_spec.specs.Orders.{program, unprogram, denied, exhausted, at_limit, program_new, order_of, orders_of, push_one, push_row, push}
+use Rattle.manager_spec.specs.Orders.{program, unprogram, denied, exhausted, at_limit, program_new, order_of, orders_of}
+use Rattle.manager_spec.specs.Orders.{push_one, push_row, push}
 use Rattle.manager_spec.specs.Agreement.{body_in, mail_at, mails_in}
 use Rattle.manager_spec.proofs.Choices.{by_if}
 

@@ -18,8 +18,12 @@ use Rattle.paxos_spec.specs.declared.steps.Counted.TheVariants as counted
 use Rattle.paxos_spec.specs.Votes.{Value, cast}
 use Rattle.paxos_spec.specs.Five.{five}
 use Rattle.paxos_spec.specs.Acceptor.{AcceptorState, reach, prepare_step, accept_step, chosen_step}
-use Rattle.paxos_spec.specs.Leader.{LeaderState, is_follower, is_catching, is_primary, is_leading, value_out, stepped_down, campaign, lead_promise, lead_reached, lead_accepted}
-use Rattle.paxos_spec.specs.Replica.{Memory, Out, mail, prepared, on_prepare, accept_of, accept_out, led, on_promise, accepted, on_accept, is_next, tallied_out, on_accepted, on_refuse, fetch_more, onwards, learned, on_chosen, fetched, on_message, campaigned, on_campaign, may_propose, on_offer}
+use Rattle.paxos_spec.specs.Leader.{LeaderState, is_follower, is_catching, is_primary, is_leading, value_out}
+use Rattle.paxos_spec.specs.Leader.{stepped_down, campaign, lead_promise, lead_reached, lead_accepted}
+use Rattle.paxos_spec.specs.Replica.{Memory, Out, mail, prepared, on_prepare, accept_of, accept_out, led, on_promise}
+use Rattle.paxos_spec.specs.Replica.{accepted, on_accept, is_next, tallied_out, on_accepted, on_refuse, fetch_more}
+use Rattle.paxos_spec.specs.Replica.{onwards, learned, on_chosen, fetched, on_message, campaigned, on_campaign}
+use Rattle.paxos_spec.specs.Replica.{may_propose, on_offer}
 use Rattle.manager_spec.proofs.Choices.{by_if}
 use Rattle.manager_spec.proofs.Mails.{AreOwn, each_map}
 

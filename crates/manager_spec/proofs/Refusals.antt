@@ -5,7 +5,8 @@ use Rattle.wire_core.specs.Commands.{LogCommand, Reserve, Release, Up}
 use Rattle.wire_core.specs.declared.address.Ip4.{Ip4}
 use Rattle.wire_core.specs.declared.address.Socket.{Socket}
 use Rattle.wire_core.specs.declared.cause.DropCause.{DropCause}
-use Rattle.wire_core.specs.declared.cause.DropCause.TheVariants.{Late, NotPrimary, NotMine, Unknown, Waiting, QueueFull, WrongRole}
+use Rattle.wire_core.specs.declared.cause.DropCause.TheVariants.{Late, NotPrimary, NotMine, Unknown, Waiting, QueueFull}
+use Rattle.wire_core.specs.declared.cause.DropCause.TheVariants.{WrongRole}
 use Rattle.wire_core.specs.declared.node.NodeId.{NodeId}
 use Rattle.wire_core.specs.declared.node.NodeId.TheVariants.{Replica, Mux, Agent}
 use Rattle.vip_config.specs.declared.parts.ConfigParts.{ConfigParts}
@@ -31,11 +32,14 @@ use Rattle.manager_spec.specs.Manager.{Manager, leases, agrees, hears}
 use Rattle.manager_spec.specs.Known.{peer}
 use Rattle.manager_spec.specs.Proposal.{Half, stops, goes_on}
 use Rattle.manager_spec.specs.Leading.{on_prepare, is_late_promise, on_promise, on_refuse, on_lead}
-use Rattle.manager_spec.specs.Voting.{is_late_accept, on_accept, completes, counts, on_accepted, is_late_chosen, on_chosen, on_fetched}
+use Rattle.manager_spec.specs.Voting.{is_late_accept, on_accept, completes, counts, on_accepted, is_late_chosen}
+use Rattle.manager_spec.specs.Voting.{on_chosen, on_fetched}
 use Rattle.manager_spec.specs.Clock.{leads, runs_for, on_tick}
 use Rattle.manager_spec.specs.Muxes.{on_hello, on_mux_refuse, programmed_by, unprogrammed_by, on_ack}
-use Rattle.manager_spec.specs.Agents.{is_waiting, most_queued, enqueue, grant_again, answer_again, ask_after, is_agents, on_ask, returned, return_of, on_return, on_agent_up}
-use Rattle.manager_spec.specs.ManagerTable.{refuses, from_replica, from_mux, from_agent, manager_hears, manager_takes, manager_half}
+use Rattle.manager_spec.specs.Agents.{is_waiting, most_queued, enqueue, grant_again, answer_again, ask_after, is_agents}
+use Rattle.manager_spec.specs.Agents.{on_ask, returned, return_of, on_return, on_agent_up}
+use Rattle.manager_spec.specs.ManagerTable.{refuses, from_replica, from_mux, from_agent, manager_hears, manager_takes}
+use Rattle.manager_spec.specs.ManagerTable.{manager_half}
 use Rattle.manager_spec.specs.Footprints.{DropsOrNot}
 use Rattle.manager_spec.proofs.Choices.{by_if}
 

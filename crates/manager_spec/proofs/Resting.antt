@@ -1,9 +1,8 @@
 -- A follower has no acknowledgements and no queue, whatever came to it.
-use Rattle.std.proofs.Common.{◌≡◌, refl, ℕ, true, false, Bool, List, [], ◌∷◌, ◌++◌, Option, Some, None, max, take, drop}
-use Rattle.std.specs.Prelude.{if◌then◌else◌, ◌==◌, not, ◌&&◌, ◌||◌, nat_lt, nat_le, is_some, length, ◌*◌, ◌-◌, fold}
+use Rattle.std.proofs.Common.{◌≡◌, refl, ℕ, true, false, Bool, List, [], ◌∷◌, ◌++◌, Option, Some, None, max}
+use Rattle.std.specs.Prelude.{◌==◌, not, ◌&&◌, ◌||◌, nat_lt, nat_le, is_some, length, ◌*◌, ◌-◌}
 use Rattle.wire_core.specs.Commands.{LogCommand, Reserve, Release, Up}
 use Rattle.wire_core.specs.declared.address.Ip4.{Ip4}
-use Rattle.wire_core.specs.declared.cause.DropCause.{DropCause}
 use Rattle.wire_core.specs.declared.cause.DropCause.TheVariants.{Late, NotPrimary, NotMine, Unknown, Waiting, QueueFull}
 use Rattle.wire_core.specs.declared.entry.Entry.{Entry}
 use Rattle.wire_core.specs.declared.node.NodeId.{NodeId}
@@ -26,21 +25,25 @@ use Rattle.paxos_spec.specs.declared.steps.Counted.TheVariants as counted
 use Rattle.paxos_spec.specs.Votes.{Value, cast}
 use Rattle.paxos_spec.specs.Acceptor.{reach, kept, accept_step, chosen_step}
 use Rattle.paxos_spec.specs.Leader.{is_follower, is_primary, lead_promise, lead_accepted}
-use Rattle.paxos_spec.specs.Replica.{Out, is_next, may_propose, on_campaign, on_offer}
+use Rattle.paxos_spec.specs.Replica.{Out, is_next, may_propose, on_campaign}
 use Rattle.node_spec.specs.Sends.{tell}
 use Rattle.node_spec.specs.Turns.{Turn, Input, Arrived, Ticked, quiet, drop_turn, says}
 use Rattle.node_spec.specs.Datagrams.{Heard, Refused, Told, Brought, heard, by_heard}
 use Rattle.manager_spec.specs.declared.marks.Marks.{Marks}
 use Rattle.manager_spec.specs.Manager.{Manager, opened_manager, leases, effects_of, rested, agrees, hears}
 use Rattle.manager_spec.specs.Known.{peer, hear_mux, marks_at, set_marks}
-use Rattle.manager_spec.specs.Orders.{after_effect, after_effects, orders}
+use Rattle.manager_spec.specs.Orders.{after_effects}
 use Rattle.manager_spec.specs.Proposal.{Half, stops, goes_on, first_due, filled, propose, whole}
 use Rattle.manager_spec.specs.Leading.{on_prepare, is_late_promise, on_promise, on_refuse, on_lead}
-use Rattle.manager_spec.specs.Voting.{is_late_accept, on_accept, completes, counts, on_accepted, is_late_chosen, on_chosen, on_fetched}
-use Rattle.manager_spec.specs.Clock.{leads, runs_for, ticks, on_tick}
-use Rattle.manager_spec.specs.Muxes.{see_epoch, hear_epoch, on_hello, on_mux_refuse, programmed_by, unprogrammed_by, on_ack}
-use Rattle.manager_spec.specs.Agents.{is_waiting, most_queued, enqueue, grant_again, answer_again, ask_after, is_agents, on_ask, returned, return_of, on_return, on_agent_up}
-use Rattle.manager_spec.specs.ManagerTable.{refuses, from_replica, from_mux, from_agent, manager_hears, manager_takes, manager_half, manager_step}
+use Rattle.manager_spec.specs.Voting.{is_late_accept, on_accept, completes, counts, on_accepted, is_late_chosen}
+use Rattle.manager_spec.specs.Voting.{on_chosen, on_fetched}
+use Rattle.manager_spec.specs.Clock.{leads, runs_for, on_tick}
+use Rattle.manager_spec.specs.Muxes.{see_epoch, on_hello, on_mux_refuse, programmed_by, unprogrammed_by}
+use Rattle.manager_spec.specs.Muxes.{on_ack}
+use Rattle.manager_spec.specs.Agents.{is_waiting, most_queued, enqueue, grant_again, answer_again, ask_after, is_agents}
+use Rattle.manager_spec.specs.Agents.{on_ask, returned, return_of, on_return, on_agent_up}
+use Rattle.manager_spec.specs.ManagerTable.{refuses, from_replica, from_mux, from_agent, manager_hears, manager_takes}
+use Rattle.manager_spec.specs.ManagerTable.{manager_half, manager_step}
 use Rattle.manager_spec.specs.Agreement.{proposed}
 use Rattle.manager_spec.specs.Footprints.{Rests}
 use Rattle.manager_spec.proofs.Choices.{by_if}

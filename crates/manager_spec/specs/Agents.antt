@@ -1,5 +1,6 @@
 -- What agents ask: Ask, Return and AgentUp.
-use Rattle.std.specs.Prelude.{ℕ, ◌*◌, Bool, false, not, ◌&&◌, ◌||◌, if◌then◌else◌, nat_lt, nat_le, ◌==◌, List, [], ◌∷◌, ◌++◌, length, Option, Some, None}
+use Rattle.std.specs.Prelude.{ℕ, ◌*◌, Bool, false, not, ◌&&◌, ◌||◌, if◌then◌else◌, nat_lt, nat_le, ◌==◌, List, [], ◌∷◌}
+use Rattle.std.specs.Prelude.{◌++◌, length, Option, Some, None}
 use Rattle.std.specs.List.{list_any}
 use Rattle.wire_core.specs.Commands.{LogCommand, Reserve, Release, Up}
 use Rattle.wire_core.specs.declared.address.Ip4.{Ip4}

@@ -1,5 +1,6 @@
 -- What a replica knows of muxes: their boots, which of them are silent, and what they acknowledged.
-use Rattle.std.specs.Prelude.{ℕ, ◌-◌, max, Bool, ◌&&◌, nat_lt, nat_le, ◌==◌, List, [], ◌∷◌, filter, slice_set, slice_index_or, unwrap_or}
+use Rattle.std.specs.Prelude.{ℕ, ◌-◌, max, Bool, ◌&&◌, nat_lt, nat_le, ◌==◌, List, [], ◌∷◌, filter, slice_set}
+use Rattle.std.specs.Prelude.{slice_index_or, unwrap_or}
 use Rattle.std.specs.Map.{lookup, remove_entry}
 use Rattle.std.specs.Ordering.{nat_cmp}
 use Rattle.std.specs.BTreeMap.{insert_entry, is_at}

@@ -9,7 +9,8 @@ use Rattle.lease_spec.specs.declared.row.Row.{Row}
 use Rattle.lease_spec.specs.declared.effect.Effect.{Effect}
 use Rattle.lease_spec.specs.declared.effect.Effect.TheVariants as effect
 use Rattle.lease_spec.specs.Table.{is_being, is_freeing, row_at}
-use Rattle.control_msg.specs.declared.message.Message.TheVariants.{Grant, Denied, Returned, AgentKnown, Program, Unprogram}
+use Rattle.control_msg.specs.declared.message.Message.TheVariants.{Grant, Denied, Returned, AgentKnown, Program}
+use Rattle.control_msg.specs.declared.message.Message.TheVariants.{Unprogram}
 use Rattle.manager_spec.specs.declared.peer.Peer.{Peer}
 use Rattle.manager_spec.specs.declared.marks.Marks.{Marks}
 use Rattle.node_spec.specs.Sends.{Send, tell}

@@ -1,5 +1,6 @@
 -- What a replica proposes, and which rows end with a proposal.
-use Rattle.std.specs.Prelude.{◌-◌, Bool, true, false, ◌&&◌, if◌then◌else◌, nat_lt, ◌==◌, List, [], ◌∷◌, ◌++◌, map, filter, length, take, drop}
+use Rattle.std.specs.Prelude.{◌-◌, Bool, true, false, ◌&&◌, if◌then◌else◌, nat_lt, ◌==◌, List, [], ◌∷◌, ◌++◌, map}
+use Rattle.std.specs.Prelude.{filter, length, take, drop}
 use Rattle.std.specs.List.{list_all, flat_map}
 use Rattle.wire_core.specs.Commands.{LogCommand, Granted, Freed}
 use Rattle.wire_core.specs.declared.command.MuxBoot.{MuxBoot}

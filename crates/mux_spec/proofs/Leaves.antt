@@ -1,17 +1,16 @@
 -- What each row leaves as it was.
-use Rattle.std.proofs.Common.{◌≡◌, refl, ℕ, List, Option, arith}
+use Rattle.std.proofs.Common.{refl, ℕ, List, arith}
 use Rattle.control_msg.specs.declared.message.Message.{Message}
 use Rattle.vip_config.specs.declared.parts.ConfigParts.{ConfigParts}
 use Rattle.vip_config.specs.declared.who.Who.{Who}
 use Rattle.wire_core.specs.declared.address.Ip4.{Ip4}
 use Rattle.mux_spec.specs.declared.row.Order.{Order}
-use Rattle.mux_spec.specs.declared.verdict.RedirectAsk.{RedirectAsk}
 use Rattle.mux_spec.specs.Commands.{refused, programs, unprograms, on_program, on_unprogram}
 use Rattle.mux_spec.specs.Footprints.{LeavesAll, LeavesAllButFlows, LeavesFlows, LeavesGateAndRows}
 use Rattle.mux_spec.specs.Gates.{admit}
 use Rattle.mux_spec.specs.Mux.{Mux, on_tick}
 use Rattle.mux_spec.specs.MuxTable.{from_mux, from_replica}
-use Rattle.mux_spec.specs.Packets.{Outcome, Passing, Sends, Drops, on_packet, passed, passing}
+use Rattle.mux_spec.specs.Packets.{Passing, Sends, Drops, on_packet, passed, passing}
 use Rattle.mux_spec.specs.Redirects.{on_redirect_ask}
 
 pub tick_leaves : (c : ConfigParts) (m : Mux) (now : ℕ) → LeavesGateAndRows m (on_tick c m now)

@@ -32,7 +32,7 @@ use Rattle.mux_spec.specs.Footprints.{CommandDrops, DropsOrNot, IsAdmitted, Leav
 use Rattle.mux_spec.specs.Gates.{admit}
 use Rattle.mux_spec.specs.Mux.{Mux}
 use Rattle.mux_spec.specs.MuxTable.{from_mux, from_replica}
-use Rattle.mux_spec.specs.Packets.{Outcome, Passing, Sends, Drops, after_note, from_who, noted_unless, on_packet}
+use Rattle.mux_spec.specs.Packets.{Outcome, Passing, Sends, Drops, from_who, noted_unless, on_packet}
 use Rattle.mux_spec.specs.Packets.{own_address, passed, passing, read_as, sound, to_end, to_endpoint, to_range}
 use Rattle.mux_spec.specs.Redirects.{on_redirect_ask}
 use Rattle.mux_spec.specs.Rows.{Rows, kept_at, programmed}
@@ -54,8 +54,8 @@ same_flows : (flows : Flows) (o : Outcome) → Keeps flows (flows, o)
 same_flows flows (Sends machine bytes ask) = tt
 same_flows flows (Drops cause) = refl
 
-noted_keeps : (c : ConfigParts) (own : Ip4) (flows : Flows) (time : ℕ) (p : List ℕ) (chosen : Ip4) (f : Option WrapFault)
-    → Keeps flows (noted_unless c own flows time p chosen f)
+noted_keeps : (c : ConfigParts) (own : Ip4) (flows : Flows) (time : ℕ) (p : List ℕ) (chosen : Ip4)
+    (f : Option WrapFault) → Keeps flows (noted_unless c own flows time p chosen f)
 noted_keeps c own flows time p chosen (Some fault) = refl
 noted_keeps c own flows time p chosen None = tt
 

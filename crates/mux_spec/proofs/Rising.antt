@@ -1,11 +1,10 @@
 -- What never falls.
-use Rattle.std.proofs.Common.{◌≡◌, refl, inl, inr, ℕ, Bool, true, false, List, [], ◌∷◌, Option, Some, None, unwrap_or}
-use Rattle.std.proofs.Common.{max, ◌≤◌, ◌<◌, nat_lt, nat_le, arith}
+use Rattle.std.proofs.Common.{refl, inl, ℕ, Bool, [], ◌∷◌, Some, None, unwrap_or}
+use Rattle.std.proofs.Common.{◌≤◌, arith}
 use Rattle.std.specs.Map.{lookup, set_value}
 use Rattle.std.proofs.lemmas.Bool.Decides.{nat_tests}
 use Rattle.control_msg.specs.declared.message.Message.{Message}
-use Rattle.node_spec.specs.Sends.{Send}
-use Rattle.node_spec.specs.Turns.{Input, Arrived, Ticked, Turn, drop_turn, writes}
+use Rattle.node_spec.specs.Turns.{Input, Arrived, Ticked, Turn, drop_turn}
 use Rattle.node_spec.specs.Datagrams.{Heard, Refused, Told, Brought, heard, by_heard}
 use Rattle.vip_config.specs.declared.parts.ConfigParts.{ConfigParts}
 use Rattle.wire_core.specs.declared.address.Ip4.{Ip4}
@@ -17,7 +16,7 @@ use Rattle.wire_core.specs.Same.{same_range}
 use Rattle.mux_spec.specs.declared.row.Kept.{Kept}
 use Rattle.mux_spec.specs.declared.row.Order.{Order}
 use Rattle.mux_spec.specs.Commands.{refused, programs, unprograms, on_program, on_unprogram}
-use Rattle.mux_spec.specs.Footprints.{AnswersBy, LeavesAll, LeavesAllButFlows, LeavesGateAndRows, Rises}
+use Rattle.mux_spec.specs.Footprints.{AnswersBy, LeavesAll, LeavesAllButFlows, Rises}
 use Rattle.mux_spec.specs.Gates.{admit}
 use Rattle.mux_spec.specs.Mux.{Mux, on_tick}
 use Rattle.mux_spec.specs.MuxTable.{from_mux, from_replica, mux_hears, mux_step}

@@ -1,5 +1,5 @@
 -- The flows of a mux: those that had one packet, and those that had more. Both lists are newest first.
-use Rattle.std.specs.Prelude.{ℕ, ◌+◌, ◌-◌, min, Bool, not, nat_lt, nat_le, ◌==◌, List, [], ◌∷◌, length, take, filter}
+use Rattle.std.specs.Prelude.{ℕ, ◌+◌, ◌-◌, min, Bool, not, nat_lt, nat_le, List, [], ◌∷◌, length, take, filter}
 use Rattle.std.specs.Prelude.{Option, Some, None, if◌then◌else◌}
 use Rattle.std.specs.Map.{lookup, remove_entry}
 use Rattle.wire_core.specs.declared.address.Ip4.{Ip4}

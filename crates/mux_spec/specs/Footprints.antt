@@ -58,8 +58,8 @@ IsAdmitted _ = ⊥
 pub data CommandDrops (m : Mux) (t : Turn Mux) : Type 0 where
   Taken : t.notes ≡ [] → CommandDrops m t
   Leaves : (cause : DropCause) → t.notes ≡ Dropped cause ∷ [] → t.state ≡ m → t.entry ≡ None → CommandDrops m t
-  Raises : (cause : DropCause) → IsAdmitted cause → t.notes ≡ Dropped cause ∷ [] → (epoch : ℕ) → t.state ≡ raised m epoch
-      → t.entry ≡ Some (Epoch epoch) → CommandDrops m t
+  Raises : (cause : DropCause) → IsAdmitted cause → t.notes ≡ Dropped cause ∷ [] → (epoch : ℕ)
+      → t.state ≡ raised m epoch → t.entry ≡ Some (Epoch epoch) → CommandDrops m t
 
 -- ---- what is answered
 

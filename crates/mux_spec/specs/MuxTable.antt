@@ -1,5 +1,5 @@
 -- A mux's table: which input is which row.
-use Rattle.std.specs.Prelude.{ℕ, List, if◌then◌else◌}
+use Rattle.std.specs.Prelude.{ℕ, if◌then◌else◌}
 use Rattle.wire_core.specs.declared.cause.DropCause.TheVariants.{WrongRole}
 use Rattle.wire_core.specs.declared.node.NodeId.{NodeId}
 use Rattle.wire_core.specs.declared.node.NodeId.TheVariants as node

@@ -1,5 +1,5 @@
 -- A mux that is asked whether the two machines of a connection may do without muxes tells both their agents.
-use Rattle.std.specs.Prelude.{ℕ, Bool, ◌&&◌, List, [], ◌∷◌, ◌++◌, Option, Some, None, is_some, if◌then◌else◌}
+use Rattle.std.specs.Prelude.{ℕ, ◌&&◌, List, ◌++◌, Option, Some, None, is_some, if◌then◌else◌}
 use Rattle.wire_core.specs.declared.address.Ip4.{Ip4}
 use Rattle.wire_core.specs.declared.cause.DropCause.TheVariants.{NotMine, NoLease}
 use Rattle.wire_core.specs.Ranges.{is_leasable, range_of}
@@ -11,7 +11,7 @@ use Rattle.node_spec.specs.Turns.{Turn, drop_turn, says}
 use Rattle.vip_config.specs.Serving.{agent_with}
 use Rattle.mux_spec.specs.declared.row.Kept.{Kept}
 use Rattle.mux_spec.specs.declared.verdict.RedirectAsk.{RedirectAsk}
-use Rattle.mux_spec.specs.Rows.{Rows, kept_at}
+use Rattle.mux_spec.specs.Rows.{kept_at}
 use Rattle.mux_spec.specs.Mux.{Mux}
 
 -- the row of a range: its number and its machine

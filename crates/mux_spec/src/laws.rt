@@ -1,6 +1,7 @@
 ghost use Rattle.std.specs.Prelude.{ℕ, List};
 ghost use Rattle.control_msg.specs.declared.message.Message.{Message};
-ghost use Rattle.mux_spec.specs.Footprints.{AnswersBy, CommandDrops, DropsOrNot, LeavesAll, LeavesAllButFlows, LeavesFlows, LeavesGateAndRows, Rises};
+ghost use Rattle.mux_spec.specs.Footprints.{AnswersBy, CommandDrops, DropsOrNot, LeavesAll, LeavesAllButFlows};
+ghost use Rattle.mux_spec.specs.Footprints.{LeavesFlows, LeavesGateAndRows, Rises};
 ghost use Rattle.mux_spec.specs.Mux.{Mux, on_tick};
 ghost use Rattle.mux_spec.specs.MuxTable.{from_mux, from_replica, mux_step};
 ghost use Rattle.mux_spec.specs.Packets.{on_packet};

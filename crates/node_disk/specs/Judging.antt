@@ -6,7 +6,7 @@ use Rattle.wire_core.specs.declared.entry.Entry.TheVariants.{Boot, Promise, Vote
 use Rattle.wire_core.specs.declared.node.NodeId.{NodeId}
 use Rattle.wire_core.specs.declared.node.NodeId.TheVariants.{Replica, Mux, Agent}
 use Rattle.wire_core.specs.declared.value.ValueFault.{ValueFault}
-use Rattle.node_spec.specs.Boots.{boot_after, boot_of}
+use Rattle.node_spec.specs.Boots.{boot_of}
 use Rattle.node_spec.specs.Bodies.{entries_of}
 use Rattle.node_disk.specs.declared.fault.NodeFault.{NodeFault}
 use Rattle.node_disk.specs.declared.fault.NodeFault.TheVariants as fault
@@ -85,8 +85,3 @@ IsJudged (fault.Full length body) judged = ⊥
 IsJudged (fault.Damaged second offset) judged = judged ≡ Err (fault.Damaged second offset)
 IsJudged (fault.WrongDisk entry) judged = judged ≡ Err (fault.WrongDisk entry)
 IsJudged (fault.Spent boot) judged = judged ≡ Err (fault.Spent boot)
-
--- the greatest boot so far, with the one that a body names
-abbrev pub boot_with : ℕ → Result Entry ValueFault → ℕ
-boot_with before (Ok e) = boot_after before e
-boot_with before (Err fault) = before

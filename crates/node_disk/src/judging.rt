@@ -1,12 +1,11 @@
 ghost use Rattle.std.specs.Prelude.{◌≡◌, Ok, option_map, true, IfOk, IfErr};
 ghost use Rattle.journal.specs.Journal.{journal_length};
 ghost use Rattle.wire_core.specs.Entries.{read_entry};
-ghost use Rattle.node_spec.specs.Boots.{boot_of};
-ghost use Rattle.node_spec.specs.Bodies.{entries_of};
-ghost use Rattle.node_disk.specs.Judging.{IsJudged, boot_with, foreign_from, is_foreign, is_own, judge, strange_from};
+ghost use Rattle.node_disk.specs.Judging.{IsJudged, foreign_from, is_foreign, is_own, judge, strange_from};
 
 use crate::fault::NodeFault;
 use crate::names::{index_of, role_of};
+use node_spec::greatest_boot;
 use std::alloc::Global;
 use wire_core::{Entry, EntryBytes, NoMemory, NodeId};
 
@@ -73,32 +72,6 @@ fn strange_entry<'a>(who: NodeId, bodies: &'a [EntryBytes]) -> Option<&'a EntryB
         first = false;
     }
     None
-}
-
-// The boot that a body names, 0 where it names none.
-fn boot_in(body: &[u8], before: u64) -> u64
-    ensures { result ≡ boot_with before (read_entry body.now) }
-{
-    match Entry::read(body) {
-        Ok(Entry::Boot { boot, .. }) => boot.max(before),
-        Ok(Entry::Promise { .. }) => before,
-        Ok(Entry::Vote { .. }) => before,
-        Ok(Entry::Learn { .. }) => before,
-        Ok(Entry::Epoch { .. }) => before,
-        Err(_) => before,
-    }
-}
-
-// The greatest boot, 0 where there is none.
-#[tactic(auto, using(crate::proofs::Boots::boot_next), unfolding(node_spec::specs::Boots::boot_of))]
-fn greatest_boot(bodies: &[EntryBytes]) -> u64
-    ensures { result ≡ boot_of (entries_of bodies.now) }
-{
-    let mut boot = 0;
-    for body in bodies {
-        boot = boot_in(body.as_slice(), boot);
-    }
-    boot
 }
 
 fn copied(alloc: Global, body: &EntryBytes) -> Result<EntryBytes, NoMemory>

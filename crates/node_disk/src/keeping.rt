@@ -29,8 +29,8 @@ fn append<D: Disk>(journal: &mut Journal<D>, body: &[u8]) -> Result<(), JournalF
     journal.append(body)
 }
 
-/// Makes the entry of a step durable, where it has one. At `Ok` it is in each image that a crash leaves; at every moment
-/// each image opens to the entries before, with it or without. Takes no memory.
+/// Makes the entry of a step durable, where it has one. At `Ok` it is in each image that a crash leaves; at every
+/// moment each image opens to the entries before, with it or without. Takes no memory.
 pub fn keep<D: Disk>(journal: &mut Journal<D>, entry: &Option<EntryBytes>) -> Result<(), NodeFault>
     requires live { journal.old.live ≡ true }
     requires spelled { IfSome entry.now IsSpelled }

@@ -7,7 +7,8 @@ use std::alloc::Global;
 use std::test::Fail;
 use wire_core::{NoMemory, NodeId};
 
-// In a journal: boots 1 and 2 of mux 0, boot 1 of mux 1 and of replica 0, the greatest boot of mux 0, epoch 5, and a promise of 5.
+// In a journal: boots 1 and 2 of mux 0, boot 1 of mux 1 and of replica 0, the greatest boot of mux 0, epoch 5, and a
+// promise of 5.
 const BOOT_1: &[u8] = b"\x01\x01\x02\x00\x00\x00\x00\x00\x00\x00\x00\x00\x01";
 
 const BOOT_2: &[u8] = b"\x01\x01\x02\x00\x00\x00\x00\x00\x00\x00\x00\x00\x02";
@@ -149,8 +150,8 @@ fn holds(disk: MemDisk, want: &[u8]) -> bool {
     }
 }
 
-// Whether the first Boot is kept byte for byte, and what a second keeping answers: the length and the body that were too
-// much.
+// Whether the first Boot is kept byte for byte, and what a second keeping answers: the length and the body that were
+// too much.
 fn kept_twice(alloc: Global, bound: u32) -> Result<(bool, Option<(u32, u32)>), NoMemory> {
     let boot = Some(boot_bytes(alloc, NodeId::Mux(0), 1)?);
     let Ok((mut journal, _)) = Journal::open(

@@ -1,5 +1,6 @@
 -- A turn after the step so far, piece by piece: what the proofs of handlers cite.
-use Rattle.std.proofs.Common.{ℕ, true, List, [], ◌∷◌, ◌++◌, Option, Some, None, option_map, ◌≡◌, ◌∙◌, refl, sym, ap, append_assoc, append-nil}
+use Rattle.std.proofs.Common.{ℕ, true, List, [], ◌∷◌, ◌++◌, Option, Some, None, option_map, ◌≡◌, ◌∙◌, refl, sym, ap}
+use Rattle.std.proofs.Common.{append_assoc, append-nil}
 use Rattle.std.specs.List.{flat_map}
 use Rattle.wire_core.specs.declared.cause.DropCause.{DropCause}
 use Rattle.wire_core.specs.declared.entry.Entry.{Entry}

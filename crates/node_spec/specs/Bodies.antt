@@ -1,18 +1,18 @@
 -- What a journal has of a node: its entries, each in bytes.
 use Rattle.std.specs.Prelude.{◌≡◌, ℕ, List, [], ◌∷◌, Result, Ok, Err}
+use Rattle.std.specs.List.{flat_map}
 use Rattle.wire_core.specs.Entries.{IsEntry, entry_bytes, read_entry}
 use Rattle.wire_core.specs.declared.entry.Entry.{Entry}
 use Rattle.wire_core.specs.declared.value.ValueFault.{ValueFault}
 
--- with the entry that is read, where one is
-abbrev pub with_entry : Result Entry ValueFault → List Entry → List Entry
-with_entry (Ok e) es = e ∷ es
-with_entry (Err fault) es = es
+-- the entry that a body spells
+abbrev pub entry_in : Result Entry ValueFault → List Entry
+entry_in (Ok e) = e ∷ []
+entry_in (Err fault) = []
 
--- The entries that these bodies spell. What spells none is left out; a journal has no such body.
-abbrev pub entries_of : List (List ℕ) → List Entry
-entries_of [] = []
-entries_of (b ∷ bs) = with_entry (read_entry b) (entries_of bs)
+-- The entry of each body that spells one. A journal has no other bodies.
+unfoldable pub entries_of : List (List ℕ) → List Entry
+entries_of bodies = flat_map (λ b. entry_in (read_entry b)) bodies
 
 -- the bytes spell an entry
 pub record IsSpelled (bytes : List ℕ) : Type 0 where

@@ -4,7 +4,7 @@ use Rattle.wire_core.specs.declared.flow.FlowKey.{FlowKey}
 use Rattle.wire_core.specs.declared.flow.Proto.TheVariants.{Tcp}
 use Rattle.wire_core.specs.declared.rules.LeaseRules.{LeaseRules}
 use Rattle.wire_core.specs.Ranges.{is_leasable, range_of}
-use Rattle.vip_config.specs.Endpoints.{same_proto}
+use Rattle.wire_core.specs.Same.{same_proto}
 use Rattle.vip_config.specs.declared.who.Who.{Who}
 use Rattle.node_spec.specs.declared.accept.Accept.{Accept}
 use Rattle.node_spec.specs.declared.accept.Accept.TheVariants.{NotFromMux, NoConnection, StaleLease, Yes}

@@ -14,6 +14,7 @@
 //! | the common tests of a datagram | `Datagrams` |
 //! | connections that may do without a mux | `Fastpath` |
 //! | a node's boot and epoch by its entries | `Boots` |
+//! | its entries by the bodies of its journal | `Bodies` |
 //!
 //! What is sent is heard as it was said: [`what_is_sent_is_heard`].
 //!
@@ -22,10 +23,12 @@
 #![tactic(auto)]
 
 mod accept;
+mod bodies;
 mod laws;
 mod telling;
 
 pub use accept::Accept;
+pub use bodies::greatest_boot;
 pub use laws::what_is_sent_is_heard;
 pub use telling::{entry_bytes, say, say_each};
 

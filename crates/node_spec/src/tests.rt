@@ -6,8 +6,13 @@ use vip_config::Config;
 use wire_core::{Entry, Ip4, NodeId, Socket, Step};
 
 /// One mux, one agent with one machine, and one VIP.
-const SMALL: &str =
-    r#"{"version":1,"router":"10.7.0.1:7000","replicas":["10.0.0.1:7000","10.0.0.2:7000","10.0.0.3:7000","10.0.0.4:7000","10.0.0.5:7000"],"muxes":["10.9.0.1:7000"],"agents":[{"socket":"10.8.0.1:7000","machines":[{"address":"10.1.0.4","attach":"10.1.0.4:9000"}]}],"vips":[{"address":"192.0.2.10","low":1024,"high":65535,"snat":["10.1.0.4"],"endpoints":[]}],"limit":16,"timers":{"lead_silent":1000,"mux_silent":5000,"ask_retry":500,"flow_idle":60000,"range_idle":30000}}"#;
+const SMALL: &str = r#"{"version":1,"router":"10.7.0.1:7000",
+        "replicas":["10.0.0.1:7000","10.0.0.2:7000","10.0.0.3:7000","10.0.0.4:7000","10.0.0.5:7000"],
+        "muxes":["10.9.0.1:7000"],
+        "agents":[{"socket":"10.8.0.1:7000","machines":[{"address":"10.1.0.4","attach":"10.1.0.4:9000"}]}],
+        "vips":[{"address":"192.0.2.10","low":1024,"high":65535,"snat":["10.1.0.4"],"endpoints":[]}],
+        "limit":16,
+        "timers":{"lead_silent":1000,"mux_silent":5000,"ask_retry":500,"flow_idle":60000,"range_idle":30000}}"#;
 
 fn small(alloc: Global) -> Result<Config, AllocError> {
     match Config::read(alloc, SMALL.as_bytes()) {
@@ -49,7 +54,9 @@ fn messages_leave_in_frames(rt: HostRuntime) -> Result<(), Fail> {
             );
             assert_eq!(rt;
                 program.bytes.as_slice(),
-                b"\x01\x01\x10\0\0\0\0\0\0\0\x05\0\0\0\0\0\0\0\x01\0\0\0\0\0\0\0\x01\xc0\0\x02\x0a\x04\0\x0a\x01\0\x04".as_slice()
+                b"\x01\x01\x10\0\0\0\0\0\0\0\x05\0\0\0\0\0\0\0\x01\0\0\0\0\0\0\0\x01\
+                    \xc0\0\x02\x0a\x04\0\x0a\x01\0\x04"
+                    .as_slice()
             );
             assert_eq!(rt;
                 first.to,

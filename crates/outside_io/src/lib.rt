@@ -1,12 +1,12 @@
-//! The windows to the outside: all that the program reads, writes, sends, stores and asks of the time goes through these
-//! traits.
+//! The windows to the outside: all that the program reads, writes, sends, stores and asks of the time goes through
+//! these traits.
 //!
 //! | trait | is | tells, where it is known |
 //! |---|---|---|
 //! | [`Source`] | a stream of bytes to read | what is left |
 //! | [`Sink`] | a stream of bytes to write | what was written |
 //! | [`Link`] | a socket for datagrams | each answer of `next`, each datagram handed to `send` |
-//! | [`Disk`] | a file that a crash may tear | what a read gives, what a crash may leave now and at each moment before |
+//! | [`Disk`] | a file that a crash may tear | what a read gives, what a crash may leave now and at each moment |
 //! | [`Clock`] | the time in milliseconds | its answers |
 //! | [`Host`] | what hands out links and disks | what it was asked for, what it handed out, what it took back |
 //!

@@ -73,16 +73,16 @@ fn is_standing(vote: &Option<Cast>, ballot: u64, value: &Value) -> bool
 
 impl Acceptor {
     /// An acceptor that promised, voted for and learned nothing.
-    pub fn new(alloc: Global) -> Result<Acceptor, NoMemory>
-        ensures { IfOk result (λ acceptor. acceptor ≡ record { state = new_acceptor; entry = None }) }
+    pub fn new(alloc: Global) -> Acceptor
+        ensures { result ≡ record { state = new_acceptor; entry = None } }
     {
-        Ok(Acceptor {
+        Acceptor {
             alloc,
             promise: 0,
             vote: None,
             log: Vec::new(alloc),
             made: Made::Nothing,
-        })
+        }
     }
 
     /// Folds in an entry of the replica's journal. A Learn past 2^58 slots, a Boot and an Epoch change nothing that is

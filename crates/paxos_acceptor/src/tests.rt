@@ -34,7 +34,7 @@ fn durable(alloc: Global, acceptor: &Acceptor) -> Result<Vec<u8>, AllocError> {
 
 #[test]
 fn what_is_learned_raises_the_promise(rt: HostRuntime) -> Result<(), Fail> {
-    let mut acceptor = Acceptor::new(rt.alloc())?;
+    let mut acceptor = Acceptor::new(rt.alloc());
     let v = value(RELEASE_1)?;
     assert_eq!(rt; acceptor.on_chosen(0, 7, &v)?, ChosenStep::Learned);
     assert_eq!(rt; acceptor.promised(), 7);
@@ -45,7 +45,7 @@ fn what_is_learned_raises_the_promise(rt: HostRuntime) -> Result<(), Fail> {
 #[test]
 fn promised(rt: HostRuntime) -> Result<(), Fail> {
     let alloc = rt.alloc();
-    let mut acceptor = Acceptor::new(alloc)?;
+    let mut acceptor = Acceptor::new(alloc);
     assert_eq!(rt; acceptor.on_prepare(5), PrepareStep::Promise);
     assert_eq!(rt;
         durable(alloc, &acceptor)?.as_slice(),
@@ -61,7 +61,7 @@ fn promised(rt: HostRuntime) -> Result<(), Fail> {
 fn voted(rt: HostRuntime) -> Result<(), Fail> {
     let alloc = rt.alloc();
     let v = value(RELEASE_1)?;
-    let mut acceptor = Acceptor::new(alloc)?;
+    let mut acceptor = Acceptor::new(alloc);
     assert_eq!(rt; acceptor.on_prepare(5), PrepareStep::Promise);
     assert_eq!(rt;
         acceptor.on_accept(4, 0, &v)?,
@@ -86,7 +86,7 @@ fn voted(rt: HostRuntime) -> Result<(), Fail> {
 fn learned(rt: HostRuntime) -> Result<(), Fail> {
     let alloc = rt.alloc();
     let w = value(RELEASE_2)?;
-    let mut acceptor = Acceptor::new(alloc)?;
+    let mut acceptor = Acceptor::new(alloc);
     assert_eq!(rt;
         acceptor.on_accept(6, 0, &value(RELEASE_1)?)?,
         AcceptStep::Voted
@@ -110,7 +110,7 @@ fn learned(rt: HostRuntime) -> Result<(), Fail> {
 
 #[test]
 fn recovered_from_its_entries(rt: HostRuntime) -> Result<(), Fail> {
-    let mut acceptor = Acceptor::new(rt.alloc())?;
+    let mut acceptor = Acceptor::new(rt.alloc());
     acceptor.recover(&Entry::Boot {
         version: 1,
         role: 1,

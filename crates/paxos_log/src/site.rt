@@ -39,7 +39,7 @@ fn recovered(alloc: Global, entries: &[OwnedEntry]) -> Result<Replica, NoMemory>
     ensures acceptor { IfOk result (λ replica. replica.acceptor ≡ state_of (entries_of entries.now)) }
     ensures memory { IfOk result (λ replica. replica.memory ≡ new_memory) }
 {
-    let mut replica = Replica::new(alloc)?;
+    let mut replica = Replica::new(alloc);
     for entry in entries {
         replica.recover(&entry.as_entry())?;
     }
@@ -49,13 +49,13 @@ fn recovered(alloc: Global, entries: &[OwnedEntry]) -> Result<Replica, NoMemory>
 impl Site {
     /// A replica that has done nothing.
     #[tactic(auto, using(crate::proofs::Journaling::state_none))]
-    pub fn new(alloc: Global) -> Result<Site, NoMemory>
-        ensures { IfOk result (λ site. site ≡ new_replica) }
+    pub fn new(alloc: Global) -> Site
+        ensures { result ≡ new_replica }
     {
-        Ok(Site {
+        Site {
             entries: Vec::new(alloc),
-            replica: Replica::new(alloc)?,
-        })
+            replica: Replica::new(alloc),
+        }
     }
 
     /// What it learned at this slot. `None` exactly from its log's length on.

@@ -49,7 +49,7 @@ fn prepares(mail: &Mail, wanted: u64) -> bool {
 
 #[test]
 fn a_value_is_inherited_at_ballot_6(rt: HostRuntime) -> Result<(), Fail> {
-    let mut world = PaxosWorld::new(rt.alloc())?;
+    let mut world = PaxosWorld::new(rt.alloc());
     world.step(&PaxosEvent::Campaign(0))?;
     deliver(&mut world, &[1, 3, 4, 6, 7, 8])?;
     world.step(&PaxosEvent::Offer(0, value(rt.alloc())?))?;
@@ -76,7 +76,7 @@ fn a_value_is_inherited_at_ballot_6(rt: HostRuntime) -> Result<(), Fail> {
 
 #[test]
 fn a_message_that_was_never_sent(rt: HostRuntime) -> Result<(), Fail> {
-    let mut world = PaxosWorld::new(rt.alloc())?;
+    let mut world = PaxosWorld::new(rt.alloc());
     deliver(&mut world, &[1, 0])?;
     assert!(rt; world.posts().is_empty());
     world.step(&PaxosEvent::Campaign(0))?;
@@ -89,7 +89,7 @@ fn a_message_that_was_never_sent(rt: HostRuntime) -> Result<(), Fail> {
 #[test]
 fn what_a_replica_promised_outlasts_a_crash(rt: HostRuntime) -> Result<(), Fail> {
     for keep in [false, true] {
-        let mut world = PaxosWorld::new(rt.alloc())?;
+        let mut world = PaxosWorld::new(rt.alloc());
         world.step(&PaxosEvent::Campaign(0))?;
         world.step(&PaxosEvent::Crash(1, keep))?;
         assert_eq!(rt; world.posts().len(), 5);

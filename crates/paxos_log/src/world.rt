@@ -31,27 +31,22 @@ impl Model for PaxosWorld {
     ghost view = { λ w. record { replicas = w.sites; posts = w.posts.items } };
 }
 
-/// Two replicas that have done nothing.
-fn two_sites(alloc: Global) -> Result<(Site, Site), NoMemory>
-    ensures { IfOk result (λ sites. sites ≡ (new_replica, new_replica)) }
-{
-    let first = Site::new(alloc)?;
-    Ok((first, Site::new(alloc)?))
-}
-
 impl PaxosWorld {
     /// Five replicas that have done nothing.
-    pub fn new(alloc: Global) -> Result<PaxosWorld, NoMemory>
-        ensures { IfOk result (λ world. world ≡ start) }
+    pub fn new(alloc: Global) -> PaxosWorld
+        ensures { result ≡ start }
     {
-        let (first, second) = two_sites(alloc)?;
-        let (third, fourth) = two_sites(alloc)?;
-        let fifth = Site::new(alloc)?;
-        Ok(PaxosWorld {
+        PaxosWorld {
             alloc,
-            sites: [first, second, third, fourth, fifth],
+            sites: [
+                Site::new(alloc),
+                Site::new(alloc),
+                Site::new(alloc),
+                Site::new(alloc),
+                Site::new(alloc),
+            ],
             posts: Vec::new(alloc),
-        })
+        }
     }
 
     /// The ballot and value that this replica, from 0 to 4, learned at this slot. `None` exactly from its log's length

@@ -31,14 +31,14 @@ impl Model for Replica {
 
 impl Replica {
     /// A replica that made no entry and remembers nothing.
-    pub fn new(alloc: Global) -> Result<Replica, NoMemory>
-        ensures { IfOk result (λ replica. replica ≡ new_replica) }
+    pub fn new(alloc: Global) -> Replica
+        ensures { result ≡ new_replica }
     {
-        Ok(Replica {
+        Replica {
             alloc,
-            acceptor: Acceptor::new(alloc)?,
+            acceptor: Acceptor::new(alloc),
             memory: Memory::new(alloc),
-        })
+        }
     }
 
     /// Folds in an entry of its journal; the memory stays. Without memory nothing changed.

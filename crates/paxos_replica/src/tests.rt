@@ -72,7 +72,7 @@ fn tells_the_value(step: &ReplicaStep, targets: &[u8]) -> bool {
 
 // A primary at ballot 5: itself, 2 and 3 promised.
 fn primary(alloc: Global) -> Result<Replica, Fail> {
-    let mut replica = Replica::new(alloc)?;
+    let mut replica = Replica::new(alloc);
     let step = replica.campaign(0)?;
     takes(&mut replica, step)?;
     for from in [0, 2, 3] {
@@ -195,7 +195,7 @@ fn learns(replica: &mut Replica) -> Result<[bool; 5], Fail> {
 
 #[test]
 fn a_vote_is_durable(rt: HostRuntime) -> Result<(), Fail> {
-    let mut replica = Replica::new(rt.alloc())?;
+    let mut replica = Replica::new(rt.alloc());
     let entry = votes(rt.alloc(), &mut replica)?;
     let promised = replica.promised();
     drop(replica);
@@ -209,7 +209,7 @@ fn a_vote_is_durable(rt: HostRuntime) -> Result<(), Fail> {
 
 #[test]
 fn what_was_learned_is_told(rt: HostRuntime) -> Result<(), Fail> {
-    let mut replica = Replica::new(rt.alloc())?;
+    let mut replica = Replica::new(rt.alloc());
     let learns = learns(&mut replica)?;
     drop(replica);
     assert_eq!(rt; learns, [true, true, false, true, false]);

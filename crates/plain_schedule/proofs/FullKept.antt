@@ -1,11 +1,12 @@
 -- Full leases while marks rise and connections open.
-use Rattle.std.proofs.Common.{◌≡◌, ◌∙◌, ℕ, Bool, true, false, List, Option, Some, None, Result, Ok, Err, find, refl, sym, ap, subst, arith}
+use Rattle.std.proofs.Common.{◌≡◌, ◌≤◌, ◌∙◌, ℕ, Bool, true, false, List, Option, Some, None, Result, Ok, Err, find, refl, sym, ap, subst, arith}
 use Rattle.std.specs.Prelude.{cond, is_some, if◌then◌else◌, IfOk, OnOk, OnErr}
 use Rattle.std.specs.List.{flat_map}
 use Rattle.wire_core.specs.declared.address.Ip4.{Ip4}
 use Rattle.wire_core.specs.declared.cause.DropCause.{DropCause}
 use Rattle.wire_core.specs.declared.flow.FlowKey.{FlowKey}
 use Rattle.wire_core.specs.declared.flow.Proto.{Proto}
+use Rattle.wire_core.proofs.SameLaws.{proto_is}
 use Rattle.lease_spec.specs.declared.row.Row.{Row}
 use Rattle.lease_spec.specs.Table.{rule_of}
 use Rattle.port_leases.specs.TableState.{TableState, onward, rows_of}
@@ -17,7 +18,7 @@ use Rattle.plain_schedule.specs.Schedule.{Plain, start}
 use Rattle.plain_schedule.specs.FullLeases.{AreFull, end_of, plain, same_end, up_to}
 use Rattle.plain_schedule.specs.Kept.{IsKept, IsSound}
 use Rattle.plain_schedule.proofs.FullLaws.{full_opens, one_more_full, past_full}
-use Rattle.plain_schedule.proofs.KeyLaws.{address_is, both, number_is, proto_is}
+use Rattle.plain_schedule.proofs.KeyLaws.{address_is, both, number_is}
 use Rattle.plain_schedule.proofs.Kept.{rows}
 use Rattle.plain_schedule.proofs.Openings.{IsNew, found_new, sound_opens, with_one}
 use Rattle.plain_schedule.proofs.SafetyLaws.{sound_start}
@@ -29,6 +30,12 @@ pub passed : (s : Plain) (key : FlowKey) (n : ℕ) → IsSound s → AreFull s (
     → find (is_free s.table s.opened) (flat_map (eight key) (rows_of (rows s) key.src n))
     ≡ first_free s.table s.opened key
 passed s key n h full = past_full s key n (sound h) full
+
+-- what is full up to a number is full up to a lesser one
+pub less_full : (s : Plain) (e : RemoteEnd) (n k : ℕ) → k ≤ n → AreFull s e n → AreFull s e k
+less_full s e n k less h =
+    let old = h.old in
+    record { full = λ row there own low. h.full row there own (omega (arith, low, less)); old = omega (arith, old, less) }
 
 pub goes_on : (s : Plain) (key : FlowKey) (n : ℕ) (row : Row) → IsSound s → AreFull s (end_of key) n
     → rows_of (rows s) key.src n ≡ onward (rows s) key.src (Some row)

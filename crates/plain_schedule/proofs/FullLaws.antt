@@ -17,16 +17,18 @@ use Rattle.lease_spec.specs.Holders.{OwnRanges, GoesOn, SameLease}
 use Rattle.lease_spec.proofs.CauseLaws.{row_number}
 use Rattle.lease_spec.proofs.MemberLaws.{each_in, each_on, found_in, in_filter}
 use Rattle.port_leases.specs.TableState.{onward, rows_of}
+use Rattle.wire_core.proofs.SameLaws.{key_is}
+use Rattle.wire_core.specs.Same.{same_key}
 use Rattle.plain_schedule.specs.declared.connections.Connection.{Connection}
 use Rattle.plain_schedule.specs.declared.full_leases.RemoteEnd.{RemoteEnd}
-use Rattle.plain_schedule.specs.Connections.{has_public, newest, same_key, standing}
+use Rattle.plain_schedule.specs.Connections.{has_public, newest, standing}
 use Rattle.plain_schedule.specs.Packets.{with_public, through, places, eight, is_free, first_free}
 use Rattle.plain_schedule.specs.Schedule.{Plain}
 use Rattle.plain_schedule.specs.Safety.{IsThrough}
 use Rattle.plain_schedule.specs.FullLeases.{AreFull, IsFull, bound, end_of, lease_of, public_at}
 use Rattle.plain_schedule.specs.Kept.{Sound, Stands}
 use Rattle.plain_schedule.proofs.FreePorts.{found_later}
-use Rattle.plain_schedule.proofs.KeyLaws.{number_is, address_is, key_is}
+use Rattle.plain_schedule.proofs.KeyLaws.{number_is, address_is}
 use Rattle.plain_schedule.proofs.ListLaws.{newest-more, newest_in, none_some, own_row, in_filter_back}
 use Rattle.plain_schedule.proofs.Kept.{rows, is_found, some_is, stood_at}
 use Rattle.plain_schedule.proofs.Openings.{IsNew, places_small, row_fits, with_one}

@@ -8,7 +8,7 @@ use Rattle.wire_core.specs.contracts.flow.ProtoPartialEq.TheImpl as proto
 use Rattle.wire_core.specs.contracts.flow.FlowKeyPartialEq.TheImpl as flow
 use Rattle.plain_schedule.specs.declared.full_leases.RemoteEnd.{RemoteEnd}
 use Rattle.plain_schedule.specs.contracts.full_leases.RemoteEndPartialEq.TheImpl as remote
-use Rattle.plain_schedule.specs.Connections.{same_key, same_proto}
+use Rattle.wire_core.specs.Same.{same_key, same_proto}
 use Rattle.plain_schedule.specs.FullLeases.{same_end}
 
 proto_eq : (a b : Proto) → proto.ghosts.eq a b ≡ same_proto a b

@@ -12,12 +12,14 @@ use Rattle.lease_spec.specs.declared.row.Row.{Row}
 use Rattle.lease_spec.specs.Table.{row_at, rule_of}
 use Rattle.lease_spec.proofs.MemberLaws.{each_append, each_in, in_cases, found_passes, found_in}
 use Rattle.port_leases.specs.TableState.{rows_of}
+use Rattle.wire_core.proofs.SameLaws.{key_is, key_itself}
+use Rattle.wire_core.specs.Same.{same_key}
 use Rattle.plain_schedule.specs.declared.connections.Connection.{Connection}
-use Rattle.plain_schedule.specs.Connections.{newest, same_key, standing}
+use Rattle.plain_schedule.specs.Connections.{newest, standing}
 use Rattle.plain_schedule.specs.Packets.{with_private, with_public, through, places, eight, is_free, first_free}
 use Rattle.plain_schedule.specs.Schedule.{Plain}
 use Rattle.plain_schedule.specs.Safety.{IsThrough}
-use Rattle.plain_schedule.proofs.KeyLaws.{both, number_is, address_is, key_is, key_same}
+use Rattle.plain_schedule.proofs.KeyLaws.{both, number_is, address_is}
 use Rattle.plain_schedule.proofs.ListLaws.{newest-more, none_some, in_filter_back, in_map_back, in_flat_map, own_row}
 use Rattle.plain_schedule.specs.FullLeases.{bound}
 use Rattle.plain_schedule.specs.Kept.{Sound, Stands}
@@ -144,7 +146,7 @@ newest_one s key c old free d i st = elim (in_cases s.opened (c ∷ []) d i) [
     mine : c ≡ d → cond (same_key (key c) (key d)) (Some c) (newest (λ x. same_key (key x) (key d)) s.opened) ≡ Some d
     mine e =
         let same : same_key (key c) (key d) ≡ true
-        = subst (λ (x : Connection). same_key (key c) (key x) ≡ true) e (key_same (key c)) in
+        = subst (λ (x : Connection). same_key (key c) (key x) ≡ true) e (key_itself (key c)) in
         rw (same, e) refl
 
 pub sound_opens : (s : Plain) (c : Connection) → Sound s → IsNew s c → Sound (with_one s c)

@@ -25,7 +25,7 @@ use Rattle.plain_schedule.specs.Lines.{line_of}
 use Rattle.plain_schedule.specs.Packets.{with_private, with_public, first_free, opens, takes, outgoing, or_none, incoming, sent}
 use Rattle.plain_schedule.specs.Schedule.{Plain, start, is_named, with_machine, seq_after, asked, ask_by, ask_line, returned, named, at_table, step, line_step, without_end}
 use Rattle.plain_schedule.specs.Safety.{moments_after, moments_from, moments_of_lines, IsLive, IsSafe, IsAlwaysSafe}
-use Rattle.plain_schedule.proofs.KeyLaws.{key_is}
+use Rattle.wire_core.proofs.SameLaws.{key_is}
 use Rattle.plain_schedule.proofs.ListLaws.{newest_in}
 use Rattle.plain_schedule.specs.Kept.{Sound, Stands}
 use Rattle.plain_schedule.proofs.Kept.{rows, some_is}

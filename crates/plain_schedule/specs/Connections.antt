@@ -1,24 +1,10 @@
 -- Connections of a plain schedule, and which of them stand.
-use Rattle.std.specs.Prelude.{◌≡◌, Bool, true, false, ◌&&◌, ◌==◌, List, Option, Some, None, fold, is_some, if◌then◌else◌}
-use Rattle.wire_core.specs.declared.flow.Proto.{Proto}
-use Rattle.wire_core.specs.declared.flow.Proto.TheVariants.{Tcp, Udp}
+use Rattle.std.specs.Prelude.{◌≡◌, Bool, List, Option, Some, None, fold, is_some, if◌then◌else◌}
 use Rattle.wire_core.specs.declared.flow.FlowKey.{FlowKey}
+use Rattle.wire_core.specs.Same.{same_key}
 use Rattle.lease_spec.specs.declared.row.Row.{Row}
 use Rattle.lease_spec.specs.Table.{row_at}
 use Rattle.plain_schedule.specs.declared.connections.Connection.{Connection}
-
-abbrev pub same_proto : Proto → Proto → Bool
-same_proto Tcp Tcp = true
-same_proto Tcp Udp = false
-same_proto Udp Tcp = false
-same_proto Udp Udp = true
-
--- all five numbers are the same
-abbrev pub same_key : FlowKey → FlowKey → Bool
-same_key a b =
-    (a.src.0 == b.src.0)
-    && ((a.dst.0 == b.dst.0)
-    && ((a.sport == b.sport) && ((a.dport == b.dport) && same_proto a.proto b.proto)))
 
 -- the last of the list that is of this kind
 abbrev pub newest : (Connection → Bool) → List Connection → Option Connection

@@ -3,19 +3,20 @@ use Rattle.std.specs.Prelude.{ℕ, ◌≡◌, ◌+◌, ◌*◌, ◌<◌, ◌≤�
 use Rattle.indexmap.specs.IndexMap.{get}
 use Rattle.wire_core.specs.declared.flow.FlowKey.{FlowKey}
 use Rattle.wire_core.specs.Members.{In, Each}
+use Rattle.wire_core.specs.Same.{same_ip, same_proto}
 use Rattle.lease_spec.specs.declared.row.Row.{Row}
 use Rattle.port_leases.specs.TableState.{TableState}
 use Rattle.plain_schedule.specs.declared.connections.Connection.{Connection}
 use Rattle.plain_schedule.specs.declared.full_leases.RemoteEnd.{RemoteEnd}
 use Rattle.plain_schedule.specs.declared.full_leases.FullLeases.{FullLeases}
-use Rattle.plain_schedule.specs.Connections.{has_public, newest, same_proto}
+use Rattle.plain_schedule.specs.Connections.{has_public, newest}
 use Rattle.plain_schedule.specs.Packets.{places}
 use Rattle.plain_schedule.specs.Schedule.{Plain}
 
 abbrev pub same_end : RemoteEnd → RemoteEnd → Bool
 same_end a b =
-    (a.machine.0 == b.machine.0)
-    && ((a.address.0 == b.address.0) && ((a.port == b.port) && same_proto a.proto b.proto))
+    same_ip a.machine b.machine
+    && (same_ip a.address b.address && ((a.port == b.port) && same_proto a.proto b.proto))
 
 -- where the packets with this key go
 abbrev pub end_of : FlowKey → RemoteEnd

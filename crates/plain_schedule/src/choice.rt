@@ -86,6 +86,18 @@ fn first_free(
     (None, above)
 }
 
+/// The greatest number that is known to be a full lease's and has a row, up to this one; 0 for none. A lease that has
+/// ended is passed once by each remote end that it was full for.
+fn standing(table: &Table, full: &FullLeases, n: u64) -> u64
+    ensures { result ≤ n }
+{
+    let mut at = n;
+    while at > 0 && table.row(at).is_none() {
+        at = full.before(at);
+    }
+    at
+}
+
 /// The first free port over the machine's leases. Full leases that it comes by are known from then on, so that each
 /// costs one look in all.
 fn find_port(
@@ -99,9 +111,9 @@ fn find_port(
     ensures kept { IsKept (plain table.now opened.now) full.new }
 {
     let end = RemoteEnd::of(key);
-    let known = full.up_to(end);
+    let known = standing(table, full, full.up_to(end));
     let (found, above) = first_free(table, opened, key, known);
-    full.set(end, above)?;
+    full.set(end, known, above)?;
     Ok(found)
 }
 

@@ -1,7 +1,8 @@
 ghost use Rattle.std.specs.Prelude.{◌≡◌, ◌<◌, ◌≤◌, ◌+◌, ◌++◌, ◌∷◌, [], Some, if◌then◌else◌, OnOk, OnErr};
 ghost use Rattle.indexmap.specs.IndexMap.{get, spare};
 ghost use Rattle.wire_core.specs.declared.flow.FlowKey.{FlowKey as Key};
-ghost use Rattle.plain_schedule.specs.Connections.{has_private, has_public, newest, same_key};
+ghost use Rattle.wire_core.specs.Same.{same_key};
+ghost use Rattle.plain_schedule.specs.Connections.{has_private, has_public, newest};
 
 use indexmap::IndexMap;
 use std::alloc::Global;
@@ -34,7 +35,8 @@ impl Model for Connections {
 
     ghost Value = { List Opened };
 
-    ghost use Rattle.plain_schedule.specs.Connections.{IsIndexed, same_key};
+    ghost use Rattle.wire_core.specs.Same.{same_key};
+    ghost use Rattle.plain_schedule.specs.Connections.{IsIndexed};
 
     ghost view = { λ c. c.opened.items };
 

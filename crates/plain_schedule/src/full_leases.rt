@@ -36,6 +36,9 @@ impl RemoteEnd {
 #[derive(Drop)]
 pub struct FullLeases {
     pub up_to: IndexMap<RemoteEnd, u64>,
+    /// Of a full lease the full one before it: where a lease has ended, its number goes back to one that stands, from
+    /// which the table finds the next lease at once.
+    before: IndexMap<u64, u64>,
 }
 
 /// The machine's leases up to this number are full.
@@ -46,6 +49,13 @@ fn put(map: &mut IndexMap<RemoteEnd, u64>, end: RemoteEnd, n: u64)
     map.insert(end, n).unwrap();
 }
 
+/// One full lease comes after another one, or after none.
+fn put_before(map: &mut IndexMap<u64, u64>, n: u64, before: u64)
+    requires { 0 < spare map.old }
+{
+    map.insert(n, before).unwrap();
+}
+
 impl FullLeases {
     /// No lease is known to be full.
     pub fn new(alloc: Global) -> FullLeases
@@ -53,6 +63,7 @@ impl FullLeases {
     {
         FullLeases {
             up_to: IndexMap::new(alloc),
+            before: IndexMap::new(alloc),
         }
     }
 
@@ -66,13 +77,29 @@ impl FullLeases {
         }
     }
 
-    /// The machine's leases up to this number are full for the remote end. Without memory nothing changes.
-    pub fn set(&mut self, end: RemoteEnd, n: u64) -> Result<(), NoMemory>
+    /// A number below this one: that of the machine's full lease before this one, or 0 for none.
+    pub fn before(&self, n: u64) -> u64
+        requires { 0 < n }
+        ensures { result < n }
+    {
+        match self.before.get(&n) {
+            Some(before) if *before < n => *before,
+            _ => 0,
+        }
+    }
+
+    /// The machine's leases up to this number are full for the remote end, and `from` was the last one known to be
+    /// full. Without memory nothing changes.
+    pub fn set(&mut self, end: RemoteEnd, from: u64, n: u64) -> Result<(), NoMemory>
         ensures ok { OnOk result ((e : End) → up_to self.new e ≡ (if same_end end e then n else up_to self.old e)) }
         ensures err { OnErr result ((e : End) → up_to self.new e ≡ up_to self.old e) }
     {
         self.up_to.reserve(1)?;
+        self.before.reserve(1)?;
         put(&mut self.up_to, end, n);
+        if from < n {
+            put_before(&mut self.before, n, from);
+        }
         Ok(())
     }
 }

@@ -76,18 +76,31 @@ fn play_lines(
     Ok(())
 }
 
-/// What the lines behind the first print.
+/// What the lines behind the first print from this state on.
 #[tactic(auto, using(crate::proofs::LineByLine::printed_none))]
+fn print_from(
+    alloc: Global,
+    state: &mut PlainState,
+    rest: Option<&[u8]>,
+) -> Result<String, PlainFault>
+    requires slots { state.old.table.slots < 2 }
+    requires few { length (parts_of 10 (option_copied rest)) < 2 ^ 32 }
+    ensures { Prints result (lines_from state.old 2 (parts_of 10 (option_copied rest.entry))) }
+{
+    let mut out = String::new(alloc);
+    match play_lines(alloc, state, &mut out, rest) {
+        Ok(()) => Ok(out),
+        Err(fault) => Err(fault),
+    }
+}
+
+/// What the lines behind the first print.
 fn print_lines(alloc: Global, rest: Option<&[u8]>) -> Result<String, PlainFault>
     requires { length (parts_of 10 (option_copied rest)) < 2 ^ 32 }
     ensures { Prints result (lines_from start 2 (parts_of 10 (option_copied rest.entry))) }
 {
     let mut state = PlainState::new(alloc)?;
-    let mut out = String::new(alloc);
-    match play_lines(alloc, &mut state, &mut out, rest) {
-        Ok(()) => Ok(out),
-        Err(fault) => Err(fault),
-    }
+    print_from(alloc, &mut state, rest)
 }
 
 fn without_end(text: &[u8]) -> &[u8]

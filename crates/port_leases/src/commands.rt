@@ -99,9 +99,11 @@ fn request(
 )
     requires room { 2 < store.old.room }
     requires next { store.old.next ≤ place }
-    requires effects { length (request store.old.rules place boot rule seq store.old.leases).effects ≤ effects.old.room }
+    requires effects { length (request store.old.rules place boot rule seq store.old.leases).effects
+        ≤ effects.old.room }
     ensures does { Does store.old store.new (request store.old.rules place boot rule seq store.old.leases) }
-    ensures effects { Adds effects.old effects.new (request store.old.rules place boot rule seq store.old.leases).effects }
+    ensures effects { Adds effects.old effects.new
+        (request store.old.rules place boot rule seq store.old.leases).effects }
     ensures next { store.new.next ≤ place + 1 }
 {
     store.raise_known(rule.agent, boot, effects);
@@ -145,8 +147,10 @@ fn reserve(
 pub fn apply_command(store: &mut Store, place: u64, command: Command<'_>, effects: &mut Effects)
     requires room { 2 < store.old.room }
     requires next { store.old.next ≤ place }
-    requires effects { length (command_done store.old.rules place (command_of command) store.old.leases).effects ≤ effects.old.room }
-    ensures does { Does store.old store.new (command_done store.old.rules place (command_of command.entry) store.old.leases) }
+    requires effects { length (command_done store.old.rules place (command_of command) store.old.leases).effects
+        ≤ effects.old.room }
+    ensures does { Does store.old store.new
+        (command_done store.old.rules place (command_of command.entry) store.old.leases) }
     ensures effects { Adds effects.old effects.new
         (command_done store.old.rules place (command_of command.entry) store.old.leases).effects }
     ensures next { store.new.next ≤ place + 1 }
@@ -206,7 +210,8 @@ pub fn apply_value(store: &mut Store, place: u64, value: &Value, effects: &mut E
     requires room { 3 * length value.now ≤ store.old.room }
     requires small { place < 2 ^ 63 }
     requires next { store.old.next ≤ place }
-    requires effects { length (apply store.old.rules (placed place value.now) store.old.leases).effects ≤ effects.old.room }
+    requires effects { length (apply store.old.rules (placed place value.now) store.old.leases).effects
+        ≤ effects.old.room }
     ensures rules { store.new.rules ≡ store.old.rules }
     ensures leases { store.new.leases ≡ (apply store.old.rules (placed place value.now) store.old.leases).leases }
     ensures next { store.new.next ≤ place + length value.now }

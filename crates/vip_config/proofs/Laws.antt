@@ -23,19 +23,21 @@ use Rattle.vip_config.specs.Configs.{wrong_port, wrong_snat}
 use Rattle.std.specs.Prelude.{unwrap_or}
 use Rattle.vip_config.specs.Leases.{all_machine_rules, lease_rules_of, machine_rule, machine_rules, rules_of, vip_rule}
 use Rattle.vip_config.specs.Machines.{agent_of, address_claims, agent_address_claims, is_machine, machine_claims}
-use Rattle.vip_config.specs.Machines.{machines_of, same_address}
+use Rattle.vip_config.specs.Machines.{machines_of}
 use Rattle.wire_core.specs.declared.flow.Proto.{Proto}
 use Rattle.wire_core.specs.declared.flow.Proto.TheVariants.{Tcp, Udp}
+use Rattle.wire_core.specs.Same.{same_ip, same_proto, same_socket}
+use Rattle.wire_core.proofs.SameLaws.{ip_itself, proto_itself, socket_itself}
 use Rattle.config_text.specs.declared.vips.Endpoint.{Endpoint}
 use Rattle.config_text.specs.declared.vips.Member.{Member}
-use Rattle.vip_config.specs.Endpoints.{endpoint_claims, member_claims, same_endpoint_key, same_proto}
+use Rattle.vip_config.specs.Endpoints.{endpoint_claims, member_claims, same_endpoint_key}
 use Rattle.vip_config.specs.Endpoints.{vip_endpoint_claims}
 use Rattle.vip_config.specs.declared.endpoints.EndpointKey.{EndpointKey}
 use Rattle.vip_config.specs.declared.endpoints.EndpointKey.TheVariants.{Port, MachinePort, Machine}
 use Rattle.vip_config.specs.Rules.{endpoint_port, machine_ports, members_of, HasBounds, HasLengths, HasRanges}
 use Rattle.vip_config.specs.Rules.{KeepsRules, Once, agent_sockets, all_machines, all_snat, all_sockets}
 use Rattle.vip_config.specs.Snat.{snat_claims, vip_snat_claims}
-use Rattle.vip_config.specs.Sockets.{agent_claims, attach_claims, mux_claims, replica_claims, same_socket}
+use Rattle.vip_config.specs.Sockets.{agent_claims, attach_claims, mux_claims, replica_claims}
 use Rattle.vip_config.specs.Sockets.{socket_claims}
 use Rattle.vip_config.specs.Vips.{HasPorts, first_wrong_port, is_high, is_low, vip_claims}
 use Rattle.vip_config.specs.Vips as vips
@@ -150,12 +152,6 @@ module _ {A K V Y : Type 0} (mark : Y → K) (f : ℕ → A → List (Claim K V)
 
 -- ---- sockets and machines
 
-pub own_address : (a : Ip4) → same_address a a ≡ true
-own_address a = grind (arith, nat_tests)
-
-pub own_socket : (a : Socket) → same_socket a a ≡ true
-own_socket a = grind (arith, nat_tests)
-
 pub flat_single : {X : Type 0} (xs : List X) → flat_map (λ x. x ∷ []) xs ≡ xs
 flat_single [] = refl
 flat_single (x ∷ xs) = ap (λ l. x ∷ l) (flat_single xs)
@@ -193,20 +189,20 @@ pub owner_keys : {K V : Type 0} (cs : List (Claim K V)) → keys_of (owners_of c
 owner_keys [] = refl
 owner_keys (c ∷ cs) = ap (λ l. c.key ∷ l) (owner_keys cs)
 
-any_in : (a : Ip4) (xs : List Ip4) → list_any (same_address a) xs ≡ true → In a xs
+any_in : (a : Ip4) (xs : List Ip4) → list_any (same_ip a) xs ≡ true → In a xs
 any_in a [] h = absurd (true≢false (sym h))
-any_in a (x ∷ xs) h = by (same_address a x) refl (any_in a xs)
+any_in a (x ∷ xs) h = by (same_ip a x) refl (any_in a xs)
   where
-    by : (b : Bool) → same_address a x ≡ b → (list_any (same_address a) xs ≡ true → In a xs) → In a (x ∷ xs)
+    by : (b : Bool) → same_ip a x ≡ b → (list_any (same_ip a) xs ≡ true → In a xs) → In a (x ∷ xs)
     by true is rest = let n = eqb-true a.0 x.0 is in inl (λ t. record { 0 = sym n t })
     by false is rest = inr (rest (rw is at h))
 
 -- an address of the machines, by the test
 pub machine_test : (agents : List AgentConf) (a : Ip4) → is_machine (machines_of agents) a
-    ≡ list_any (same_address a) (flat_map (λ agent. map (λ machine. machine.address) agent.machines) agents)
+    ≡ list_any (same_ip a) (flat_map (λ agent. map (λ machine. machine.address) agent.machines) agents)
 machine_test agents a =
-    sym (claimed_keys same_address (same_address a) (machines_of agents))
-    ∙ ap (list_any (same_address a)) (owner_keys (machine_claims agents) ∙ machine_keys agents)
+    sym (claimed_keys same_ip (same_ip a) (machines_of agents))
+    ∙ ap (list_any (same_ip a)) (owner_keys (machine_claims agents) ∙ machine_keys agents)
 
 -- ---- VIPs
 
@@ -254,13 +250,9 @@ has_ports (x ∷ xs) h = ((omega (arith, h.0.order, h.0.below), omega (arith, h.
 
 -- ---- endpoints
 
-own_proto : (p : Proto) → same_proto p p ≡ true
-own_proto Tcp = refl
-own_proto Udp = refl
-
 own_key : (k : EndpointKey) → same_endpoint_key k k ≡ true
-own_key (Port v p n) = let proto = own_proto p in grind (arith, nat_tests, proto)
-own_key (MachinePort p a n) = let proto = own_proto p in grind (arith, nat_tests, proto)
+own_key (Port v p n) = let proto = proto_itself p in grind (arith, nat_tests, proto)
+own_key (MachinePort p a n) = let proto = proto_itself p in grind (arith, nat_tests, proto)
 own_key (Machine v e a) = grind (arith, nat_tests)
 
 alone : {X : Type 0} (x : X) → Once (x ∷ [])
@@ -349,19 +341,19 @@ pub keeps_rules : (s : Settings) → broken_rule s ≡ None → KeepsRules (part
 keeps_rules s none =
     let machines = machines_of s.agents in
     let sockets =
-    clean same_socket own_socket [] (socket_claims s.router s.replicas s.muxes s.agents)
+    clean same_socket socket_itself [] (socket_claims s.router s.replicas s.muxes s.agents)
     (none_left (shared_socket s) _ none) in
     let later = none_right (shared_socket s) _ none in
     let addresses =
-    clean same_address own_address [] (machine_claims s.agents) (none_left (shared_machine s) _ later) in
+    clean same_ip ip_itself [] (machine_claims s.agents) (none_left (shared_machine s) _ later) in
     let of_vips = none_right (shared_machine s) _ later in
     let vips =
-    clean same_address own_address [] (claims_of (vip_claims machines) 0 s.vips)
+    clean same_ip ip_itself [] (claims_of (vip_claims machines) 0 s.vips)
     (none_left (shared_vip machines s.vips) _ of_vips) in
     let of_ports = none_right (shared_vip machines s.vips) _ of_vips in
     let of_snat = none_right (wrong_port s.vips) _ of_ports in
     let snat =
-    clean same_address own_address [] (claims_of (vip_snat_claims machines) 0 s.vips)
+    clean same_ip ip_itself [] (claims_of (vip_snat_claims machines) 0 s.vips)
     (none_left (wrong_snat machines s.vips) _ of_snat) in
     let endpoints =
     clean same_endpoint_key own_key [] (claims_of (vip_endpoint_claims machines) 0 s.vips)
@@ -380,7 +372,7 @@ keeps_rules s none =
           (each_claims (λ c. c.fits ≡ true) (λ a. In a (all_machines (parts_of s)) → ⊥) (vip_claims machines)
           (λ vip. vip.address ∷ [])
           (λ i vip h. (
-            λ there. true≢false (sym (in_any same_address own_address vip.address (all_machines (parts_of s)) there)
+            λ there. true≢false (sym (in_any same_ip ip_itself vip.address (all_machines (parts_of s)) there)
                 ∙ sym (machine_test s.agents vip.address) ∙ not_true _ h.0),
             tt,
           ))
@@ -522,5 +514,5 @@ pub rules_agents : (c : ConfigParts) → KeepsRules c
 rules_agents c keeps =
     all_named (machines_of c.agents) c.vips
     (each_on (λ a. In a (all_machines c)) (λ a. is_machine (machines_of c.agents) a ≡ true)
-    (λ a there. machine_test c.agents a ∙ in_any same_address own_address a (all_machines c) there)
+    (λ a there. machine_test c.agents a ∙ in_any same_ip ip_itself a (all_machines c) there)
     (all_snat c) keeps.snat_machines)

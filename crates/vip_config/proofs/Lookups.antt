@@ -9,7 +9,8 @@ use Rattle.std.specs.Option.{option_or}
 use Rattle.std.proofs.lemmas.Bool.{eqb-true}
 use Rattle.wire_core.specs.declared.address.Ip4.{Ip4}
 use Rattle.wire_core.specs.Members.{In}
-use Rattle.vip_config.specs.Machines.{same_address}
+use Rattle.wire_core.specs.Same.{same_ip}
+use Rattle.wire_core.proofs.SameLaws.{ip_is}
 use Rattle.vip_config.specs.Rules.{Once}
 use Rattle.vip_config.specs.Serving.{has_snat, is_snat, snat_vip}
 use Rattle.vip_config.specs.Ways.{FindsAs, all_leaves, leaves_of}
@@ -18,9 +19,6 @@ use Rattle.vip_config.proofs.Clean.{any_member, no_member}
 use Rattle.vip_config.proofs.Members.{in_left, in_right, once_apart, once_right}
 use Rattle.vip_config.proofs.Loops.{joined_more, mapped_more}
 use Rattle.vip_config.proofs.Walks.{insert_last}
-
-address_is : (a b : Ip4) → same_address a b ≡ true → a ≡ b
-address_is a b h = let n = eqb-true a.0 b.0 h in λ t. record { 0 = n t }
 
 lookup_append : {V : Type 0} (t : Ip4 → Bool) (es fs : List (Ip4 × V))
     → lookup t (es ++ fs) ≡ option_or (lookup t es) (lookup t fs)
@@ -42,28 +40,28 @@ none_last None = refl
 
 module _ {V : Type 0} where
   -- an address that stands there already hides what comes later
-  pub hidden : (es : List (Ip4 × V)) (a : Ip4) (v : V) → is_some (lookup (same_address a) es) ≡ true
+  pub hidden : (es : List (Ip4 × V)) (a : Ip4) (v : V) → is_some (lookup (same_ip a) es) ≡ true
       → FindsAs es (es ++ (a, v) ∷ [])
-  hidden es a v there k = by (same_address k a) refl ∙ sym (lookup_append (same_address k) es ((a, v) ∷ []))
+  hidden es a v there k = by (same_ip k a) refl ∙ sym (lookup_append (same_ip k) es ((a, v) ∷ []))
     where
-      by : (b : Bool) → same_address k a ≡ b
-          → lookup (same_address k) es ≡ option_or (lookup (same_address k) es) (lookup (same_address k) ((a, v) ∷ []))
+      by : (b : Bool) → same_ip k a ≡ b
+          → lookup (same_ip k) es ≡ option_or (lookup (same_ip k) es) (lookup (same_ip k) ((a, v) ∷ []))
       by true is =
-          some_first (lookup (same_address k) es) _
-          (ap (λ x. is_some (lookup (same_address x) es)) (address_is k a is) ∙ there)
-      by false is = rw is (none_last (lookup (same_address k) es))
+          some_first (lookup (same_ip k) es) _
+          (ap (λ x. is_some (lookup (same_ip x) es)) (ip_is k a is) ∙ there)
+      by false is = rw is (none_last (lookup (same_ip k) es))
 
-  pub added : (es new : List (Ip4 × V)) (a : Ip4) (v : V) → is_some (lookup (same_address a) es) ≡ false
-      → new ≡ insert_entry same_address es a v → FindsAs new (es ++ (a, v) ∷ [])
-  added es new a v none is k = ap (lookup (same_address k)) (is ∙ insert_last same_address es a v none)
+  pub added : (es new : List (Ip4 × V)) (a : Ip4) (v : V) → is_some (lookup (same_ip a) es) ≡ false
+      → new ≡ insert_entry same_ip es a v → FindsAs new (es ++ (a, v) ∷ [])
+  added es new a v none is k = ap (lookup (same_ip k)) (is ∙ insert_last same_ip es a v none)
 
   -- what is found so far, and what is added to it
   pub finds_more : (was now ys zs all : List (Ip4 × V)) → FindsAs was ys → FindsAs now (was ++ zs) → ys ++ zs ≡ all
       → FindsAs now all
   finds_more was now ys zs all so_far step is k =
-      step k ∙ lookup_append (same_address k) was zs
-      ∙ ap (λ o. option_or o (lookup (same_address k) zs)) (so_far k)
-      ∙ sym (lookup_append (same_address k) ys zs) ∙ ap (lookup (same_address k)) is
+      step k ∙ lookup_append (same_ip k) was zs
+      ∙ ap (λ o. option_or o (lookup (same_ip k) zs)) (so_far k)
+      ∙ sym (lookup_append (same_ip k) ys zs) ∙ ap (lookup (same_ip k)) is
 
 module _ {A V : Type 0} (xs : List A) (i : ℕ) (d : A) (within : i < length xs) where
   pub finds_mapped : (f : A → Ip4 × V) (front was now : List (Ip4 × V)) → FindsAs was (front ++ map f (take i xs))
@@ -92,17 +90,17 @@ leaves_found t vip (m ∷ ms) = by (t m) refl (leaves_found t vip ms)
     by false is rest = rw is rest
 
 pub leaving_is : (vips : List VipConf) (machine : Ip4)
-    → lookup (same_address machine) (all_leaves vips) ≡ snat_vip vips machine
+    → lookup (same_ip machine) (all_leaves vips) ≡ snat_vip vips machine
 unfolding snat_vip
 leaving_is [] machine = refl
 leaving_is (x ∷ xs) machine =
-    lookup_append (same_address machine) (leaves_of x) (all_leaves xs)
-    ∙ ap (λ o. option_or o (lookup (same_address machine) (all_leaves xs)))
-    (leaves_found (same_address machine) x.address x.snat)
+    lookup_append (same_ip machine) (leaves_of x) (all_leaves xs)
+    ∙ ap (λ o. option_or o (lookup (same_ip machine) (all_leaves xs)))
+    (leaves_found (same_ip machine) x.address x.snat)
     ∙ by (is_snat machine x) refl (leaving_is xs machine)
   where
-    by : (b : Bool) → is_snat machine x ≡ b → lookup (same_address machine) (all_leaves xs) ≡ snat_vip xs machine
-        → option_or (cond (is_snat machine x) (Some x.address) None) (lookup (same_address machine) (all_leaves xs))
+    by : (b : Bool) → is_snat machine x ≡ b → lookup (same_ip machine) (all_leaves xs) ≡ snat_vip xs machine
+        → option_or (cond (is_snat machine x) (Some x.address) None) (lookup (same_ip machine) (all_leaves xs))
         ≡ option_map (λ (vip : VipConf). vip.address) (find (is_snat machine) (x ∷ xs))
     by true is rest = rw is refl
     by false is rest = rw is rest
@@ -110,7 +108,7 @@ leaving_is (x ∷ xs) machine =
 -- whether this is the VIP, where there is one
 abbrev pub is_from : Ip4 → Option Ip4 → Bool
 is_from a None = false
-is_from a (Some vip) = same_address vip a
+is_from a (Some vip) = same_ip vip a
 
 and_false : (b : Bool) → (b && false) ≡ false
 and_false true = refl
@@ -127,9 +125,9 @@ none_leaves [] a machine apart = refl
 none_leaves (x ∷ xs) a machine apart =
     let snat = flat_map (λ (vip : VipConf). vip.snat) xs in
     let here : is_snat machine x ≡ false =
-    no_member same_address address_is machine x.snat (λ i. apart (in_left x.snat snat machine i)) in
+    no_member same_ip ip_is machine x.snat (λ i. apart (in_left x.snat snat machine i)) in
     let rest = none_leaves xs a machine (λ i. apart (in_right x.snat snat machine i)) in
-    rw (here, rest) (ap (λ b. b || false) (and_false (same_address x.address a)))
+    rw (here, rest) (ap (λ b. b || false) (and_false (same_ip x.address a)))
 
 pub snat_found : (vips : List VipConf) (a machine : Ip4) → Once (flat_map (λ vip. vip.snat) vips)
     → has_snat vips a machine ≡ is_from a (snat_vip vips machine)
@@ -142,7 +140,7 @@ snat_found (x ∷ xs) a machine once =
         → has_snat (x ∷ xs) a machine
         ≡ is_from a (option_map (λ (vip : VipConf). vip.address) (find (is_snat machine) (x ∷ xs)))
     by true is rest =
-        let here = any_member same_address address_is machine x.snat is in
+        let here = any_member same_ip ip_is machine x.snat is in
         let apart = once_apart x.snat (flat_map (λ (vip : VipConf). vip.snat) xs) machine once here in
-        rw (is, none_leaves xs a machine apart) (or_false (same_address x.address a))
-    by false is rest = rw (is, and_false (same_address x.address a)) rest
+        rw (is, none_leaves xs a machine apart) (or_false (same_ip x.address a))
+    by false is rest = rw (is, and_false (same_ip x.address a)) rest

@@ -9,19 +9,20 @@ use Rattle.wire_core.specs.declared.address.Ip4.{Ip4}
 use Rattle.wire_core.specs.declared.address.Socket.{Socket}
 use Rattle.wire_core.specs.declared.node.NodeId.{NodeId}
 use Rattle.wire_core.specs.declared.node.NodeId.TheVariants.{Replica, Mux, Agent}
+use Rattle.wire_core.specs.Same.{same_socket}
+use Rattle.wire_core.proofs.SameLaws.{socket_is}
 use Rattle.config_text.specs.declared.agents.AgentConf.{AgentConf}
 use Rattle.config_text.specs.declared.agents.Attach.{Attach}
 use Rattle.vip_config.specs.Claims.{Claim, claims_of, owners_of}
 use Rattle.vip_config.specs.Queries.{IsOwner, node_owner, socket_of, sockets_of, who_of}
 use Rattle.vip_config.specs.Rules.{all_machines}
-use Rattle.vip_config.specs.Sockets.{agent_claims, attach_claims, mux_claims, replica_claims, same_socket}
+use Rattle.vip_config.specs.Sockets.{agent_claims, attach_claims, mux_claims, replica_claims}
 use Rattle.vip_config.specs.declared.parts.ConfigParts.{ConfigParts}
 use Rattle.vip_config.specs.declared.who.Who.{Who}
 use Rattle.vip_config.specs.declared.who.Who.TheVariants.{Outside, Machine, Agent as of_agent, Replica as of_replica}
 use Rattle.vip_config.specs.declared.who.Who.TheVariants.{Mux as of_mux}
 use Rattle.vip_config.proofs.Clean.{in_flat}
 use Rattle.vip_config.proofs.Members.{in_cases}
-use Rattle.vip_config.proofs.Unbroken.{same_sockets}
 use Rattle.vip_config.proofs.Walks.{none_some}
 
 -- ---- lists
@@ -138,7 +139,7 @@ module _ (c : ConfigParts) where
       by : (o : Option Who) → lookup (same_socket socket) (sockets_of c) ≡ o
           → IsNamed c socket (unwrap_or o Outside)
       by None is = tt
-      by (Some who) is = of_all (socket, who) (found_in same_socket same_sockets (sockets_of c) socket who is)
+      by (Some who) is = of_all (socket, who) (found_in same_socket socket_is (sockets_of c) socket who is)
 
   pub only : (n : NodeId) (socket : Socket) → who_of c socket ≡ node_owner n → socket_of c n ≡ Some socket
   only (Replica i) socket is = subst (IsNamed c socket) is (who_named socket)

@@ -10,19 +10,20 @@ use Rattle.wire_core.specs.declared.address.Ip4.{Ip4}
 use Rattle.wire_core.specs.declared.address.Socket.{Socket}
 use Rattle.wire_core.specs.declared.node.NodeId.{NodeId}
 use Rattle.wire_core.specs.declared.node.NodeId.TheVariants.{Replica, Mux, Agent}
+use Rattle.wire_core.specs.Same.{same_ip, same_socket}
+use Rattle.wire_core.proofs.SameLaws.{ip_is, ip_itself, socket_is, socket_itself}
 use Rattle.config_text.specs.declared.agents.AgentConf.{AgentConf}
 use Rattle.vip_config.specs.Claims.{Claim, claims_of, owners_of}
 use Rattle.vip_config.specs.Machines.{address_claims, agent_address_claims, agent_of, machine_claims, machines_of}
-use Rattle.vip_config.specs.Machines.{same_address}
 use Rattle.vip_config.specs.Queries.{KnowsOwners, node_owner, socket_of, sockets_of, who_of}
 use Rattle.vip_config.specs.Rules.{KeepsRules, Once}
-use Rattle.vip_config.specs.Sockets.{agent_claims, attach_claims, mux_claims, replica_claims, same_socket}
+use Rattle.vip_config.specs.Sockets.{agent_claims, attach_claims, mux_claims, replica_claims}
 use Rattle.vip_config.specs.Sockets.{socket_claims}
 use Rattle.vip_config.specs.declared.parts.ConfigParts.{ConfigParts}
 use Rattle.vip_config.specs.declared.who.Who.{Who}
 use Rattle.vip_config.specs.declared.who.Who.TheVariants.{Outside, Machine, Agent as of_agent, Replica as of_replica}
 use Rattle.vip_config.specs.declared.who.Who.TheVariants.{Mux as of_mux}
-use Rattle.vip_config.proofs.Laws.{machine_keys, owner_keys, own_address, own_socket, socket_keys}
+use Rattle.vip_config.proofs.Laws.{machine_keys, owner_keys, socket_keys}
 use Rattle.vip_config.proofs.Named.{configured, only}
 use Rattle.vip_config.proofs.Members.{in_left, in_right}
 use Rattle.vip_config.proofs.Walks.{none_some}
@@ -91,23 +92,6 @@ each_at : {X : Type 0} (P : X → Type 0) (xs : List X) → ((j : ℕ) (x : X) �
 each_at P [] f = tt
 each_at P (x ∷ xs) f = (f 0 x refl, each_at P xs (λ j y at. f (suc j) y at))
 
-and_left : (a b : Bool) → (a && b) ≡ true → a ≡ true
-and_left true b h = refl
-and_left false b h = h
-
-and_right : (a b : Bool) → (a && b) ≡ true → b ≡ true
-and_right true b h = h
-and_right false b h = absurd (true≢false (sym h))
-
-same_is : (a b : Socket) → same_socket a b ≡ true → a ≡ b
-same_is a b h =
-    let ip = eqb-true a.ip.0 b.ip.0 (and_left (a.ip.0 == b.ip.0) (a.port == b.port) h) in
-    let port = eqb-true a.port b.port (and_right (a.ip.0 == b.ip.0) (a.port == b.port) h) in
-    λ t. record { ip = record { 0 = ip t }; port = port t }
-
-address_is : (a b : Ip4) → same_address a b ≡ true → a ≡ b
-address_is a b h = let n = eqb-true a.0 b.0 h in λ t. record { 0 = n t }
-
 mapped_some : {X Y : Type 0} (f : X → Y) (o : Option X) (y : Y) → option_map f o ≡ Some y
     → (x : X) × (o ≡ Some x) × (f x ≡ y)
 mapped_some f None y is = absurd (none_some (sym is))
@@ -128,7 +112,7 @@ module _ (c : ConfigParts) (keeps : KeepsRules c) where
       let once : Once (keys_of (sockets_of c)) =
       subst Once (sym (owner_keys (socket_claims c.router c.replicas c.muxes c.agents) ∙ socket_keys c)) keeps.sockets
       in
-      ap (λ o. unwrap_or o Outside) (owner_found same_socket own_socket same_is (sockets_of c) socket who once there)
+      ap (λ o. unwrap_or o Outside) (owner_found same_socket socket_itself socket_is (sockets_of c) socket who once there)
 
   of_agents : (e : Socket × Who) → In e (owners_of (agents_in c)) → In e (sockets_of c)
   of_agents e h = inr (in_owners_right (replicas_in c ++ muxes_in c) (agents_in c) e h)
@@ -172,7 +156,7 @@ module _ (c : ConfigParts) (keeps : KeepsRules c) where
       each_at (λ machine. agent_of (machines_of c.agents) machine.address ≡ Some i) a.machines
       (λ j machine there.
       let e : Ip4 × ℕ = (machine.address, i) in
-      owner_found same_address own_address address_is (machines_of c.agents) machine.address i once
+      owner_found same_ip ip_itself ip_is (machines_of c.agents) machine.address i once
       (in_claims agent_address_claims 0 i i c.agents a e (omega arith) at
       (in_claims (address_claims i) 0 j j a.machines machine e (omega arith) there (inl refl))))
 
@@ -185,11 +169,11 @@ module _ (c : ConfigParts) (keeps : KeepsRules c) where
     attached = attached;
     others = λ socket none.
         ap (λ o. unwrap_or o Outside)
-        (none_found same_socket own_socket same_is (sockets_of c) socket
+        (none_found same_socket socket_itself socket_is (sockets_of c) socket
         (λ there. none (subst (In socket) (owner_keys (socket_claims c.router c.replicas c.muxes c.agents)
         ∙ socket_keys c) there)));
     machines = machines;
     no_machines = λ address none.
-        none_found same_address own_address address_is (machines_of c.agents) address
+        none_found same_ip ip_itself ip_is (machines_of c.agents) address
         (λ there. none (subst (In address) (owner_keys (machine_claims c.agents) ∙ machine_keys c.agents) there));
   }

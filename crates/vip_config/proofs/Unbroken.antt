@@ -10,6 +10,8 @@ use Rattle.wire_core.specs.declared.address.Ip4.{Ip4}
 use Rattle.wire_core.specs.declared.address.Socket.{Socket}
 use Rattle.wire_core.specs.declared.flow.Proto.{Proto}
 use Rattle.wire_core.specs.declared.flow.Proto.TheVariants.{Tcp, Udp}
+use Rattle.wire_core.specs.Same.{same_ip, same_proto, same_socket}
+use Rattle.wire_core.proofs.SameLaws.{ip_is, ip_itself, proto_is, socket_is}
 use Rattle.config_text.specs.declared.settings.Settings.{Settings}
 use Rattle.config_text.specs.declared.vips.Endpoint.{Endpoint}
 use Rattle.config_text.specs.declared.vips.Member.{Member}
@@ -17,13 +19,12 @@ use Rattle.config_text.specs.declared.vips.VipText.{VipText}
 use Rattle.vip_config.specs.Claims.{Claim, claims_of}
 use Rattle.vip_config.specs.Configs.{broken_rule, parts_of, shared_machine, shared_socket}
 use Rattle.vip_config.specs.Configs.{shared_vip, vip_conf_of, wrong_endpoint, wrong_port, wrong_snat}
-use Rattle.vip_config.specs.Endpoints.{endpoint_claims, member_claims, same_endpoint_key, same_proto}
+use Rattle.vip_config.specs.Endpoints.{endpoint_claims, member_claims, same_endpoint_key}
 use Rattle.vip_config.specs.Endpoints.{vip_endpoint_claims}
 use Rattle.vip_config.specs.Machines.{address_claims, agent_address_claims, is_machine, machine_claims, machines_of}
-use Rattle.vip_config.specs.Machines.{same_address}
 use Rattle.vip_config.specs.Rules.{HasRanges, KeepsRules, Once, all_machines, endpoint_port, machine_ports, members_of}
 use Rattle.vip_config.specs.Snat.{snat_claims, vip_snat_claims}
-use Rattle.vip_config.specs.Sockets.{agent_claims, attach_claims, mux_claims, replica_claims, same_socket}
+use Rattle.vip_config.specs.Sockets.{agent_claims, attach_claims, mux_claims, replica_claims}
 use Rattle.vip_config.specs.Sockets.{socket_claims}
 use Rattle.vip_config.specs.Vips.{first_wrong_port, is_high, is_low, vip_claims}
 use Rattle.vip_config.specs.Vips as vips
@@ -31,33 +32,13 @@ use Rattle.vip_config.specs.declared.endpoints.EndpointKey.{EndpointKey}
 use Rattle.vip_config.specs.declared.endpoints.EndpointKey.TheVariants.{Port, MachinePort, Machine}
 use Rattle.vip_config.specs.declared.parts.VipConf.{VipConf}
 use Rattle.vip_config.proofs.Laws.{each_on, flat_of, flat_single, keys, keys_claims, machine_keys, machine_test}
-use Rattle.vip_config.proofs.Laws.{own_address, same_machine_ports, same_snat, same_vips, socket_keys}
+use Rattle.vip_config.proofs.Laws.{same_machine_ports, same_snat, same_vips, socket_keys}
 use Rattle.vip_config.proofs.Members.{each_append, in_any}
 use Rattle.vip_config.proofs.Clean.{claims_all, claims_each, each_parts, each_text, each_unmap, flat_keys, flat_none}
 use Rattle.vip_config.proofs.Clean.{in_flat, named_all, named_each, no_member, none_broken, nothing, once_mapped}
 use Rattle.vip_config.proofs.Clean.{once_numbered}
 
 -- ---- keys that are the same are equal
-
-both : (a b : Bool) → (a && b) ≡ true → (a ≡ true) × (b ≡ true)
-both true b h = (refl, h)
-both false b h = absurd (true≢false (sym h))
-
-same_addresses : (a b : Ip4) → same_address a b ≡ true → a ≡ b
-same_addresses a b h = let n = eqb-true a.0 b.0 h in λ t. record { 0 = n t }
-
-pub same_sockets : (a b : Socket) → same_socket a b ≡ true → a ≡ b
-same_sockets a b h =
-    let parts = both (a.ip.0 == b.ip.0) (a.port == b.port) h in
-    let ip = same_addresses a.ip b.ip parts.0 in
-    let port = eqb-true a.port b.port parts.1 in
-    λ t. record { ip = ip t; port = port t }
-
-same_protos : (p q : Proto) → same_proto p q ≡ true → p ≡ q
-same_protos Tcp Tcp h = refl
-same_protos Tcp Udp h = absurd (true≢false (sym h))
-same_protos Udp Tcp h = absurd (true≢false (sym h))
-same_protos Udp Udp h = refl
 
 three : (a b c : Bool) → (a && b && c) ≡ true → (a ≡ true) × (b ≡ true) × (c ≡ true)
 three true true c h = (refl, refl, h)
@@ -68,20 +49,20 @@ same_keys : (k l : EndpointKey) → same_endpoint_key k l ≡ true → k ≡ l
 same_keys (Port v p n) (Port w q m) h =
     let parts = three (v == w) (same_proto p q) (n == m) h in
     let vip = eqb-true v w parts.0 in
-    let proto = same_protos p q parts.1 in
+    let proto = proto_is p q parts.1 in
     let port = eqb-true n m parts.2 in
     λ t. Port (vip t) (proto t) (port t)
 same_keys (MachinePort p a n) (MachinePort q b m) h =
     let parts = three (same_proto p q) (a.0 == b.0) (n == m) h in
-    let proto = same_protos p q parts.0 in
-    let address = same_addresses a b parts.1 in
+    let proto = proto_is p q parts.0 in
+    let address = ip_is a b parts.1 in
     let port = eqb-true n m parts.2 in
     λ t. MachinePort (proto t) (address t) (port t)
 same_keys (Machine v e a) (Machine w f b) h =
     let parts = three (v == w) (e == f) (a.0 == b.0) h in
     let vip = eqb-true v w parts.0 in
     let endpoint = eqb-true e f parts.1 in
-    let address = same_addresses a b parts.2 in
+    let address = ip_is a b parts.2 in
     λ t. Machine (vip t) (endpoint t) (address t)
 same_keys (Port v p n) (MachinePort q b m) h = absurd (true≢false (sym h))
 same_keys (Port v p n) (Machine w f b) h = absurd (true≢false (sym h))
@@ -266,11 +247,11 @@ module _ (s : Settings) (keeps : KeepsRules (parts_of s)) where
   machines = machines_of s.agents
 
   is_there : (a : Ip4) → In a (all_machines (parts_of s)) → is_machine machines a ≡ true
-  is_there a there = machine_test s.agents a ∙ in_any same_address own_address a (all_machines (parts_of s)) there
+  is_there a there = machine_test s.agents a ∙ in_any same_ip ip_itself a (all_machines (parts_of s)) there
 
   no_shared_socket : shared_socket s ≡ None
   no_shared_socket =
-      none_broken same_socket same_sockets (socket_claims s.router s.replicas s.muxes s.agents)
+      none_broken same_socket socket_is (socket_claims s.router s.replicas s.muxes s.agents)
       (subst Once (sym (socket_keys (parts_of s))) keeps.sockets) (
         refl,
         each_append (λ c. c.fits ≡ true) (claims_of replica_claims 0 s.replicas ++ claims_of mux_claims 0 s.muxes)
@@ -288,7 +269,7 @@ module _ (s : Settings) (keeps : KeepsRules (parts_of s)) where
 
   no_shared_machine : shared_machine s ≡ None
   no_shared_machine =
-      none_broken same_address same_addresses (machine_claims s.agents)
+      none_broken same_ip ip_is (machine_claims s.agents)
       (subst Once (sym (machine_keys s.agents)) keeps.machines)
       (claims_all (λ c. c.fits ≡ true) agent_address_claims
       (λ i agent. claims_all (λ c. c.fits ≡ true) (address_claims i)
@@ -296,11 +277,11 @@ module _ (s : Settings) (keeps : KeepsRules (parts_of s)) where
 
   is_apart : (a : Ip4) → (In a (all_machines (parts_of s)) → ⊥) → not (is_machine machines a) ≡ true
   is_apart a apart =
-      ap not (machine_test s.agents a ∙ no_member same_address same_addresses a (all_machines (parts_of s)) apart)
+      ap not (machine_test s.agents a ∙ no_member same_ip ip_is a (all_machines (parts_of s)) apart)
 
   no_shared_vip : shared_vip machines s.vips ≡ None
   no_shared_vip =
-      none_broken same_address same_addresses (claims_of (vip_claims machines) 0 s.vips)
+      none_broken same_ip ip_is (claims_of (vip_claims machines) 0 s.vips)
       (subst Once (sym (keys_claims (vip_claims machines) (λ vip. vip.address ∷ []) (λ i vip. refl) 0 s.vips
       ∙ same_vips s.vips)) keeps.vips)
       (claims_each (λ c. c.fits ≡ true) (λ vip. In vip.address (all_machines (parts_of s)) → ⊥) (vip_claims machines)
@@ -317,7 +298,7 @@ module _ (s : Settings) (keeps : KeepsRules (parts_of s)) where
 
   no_wrong_snat : wrong_snat machines s.vips ≡ None
   no_wrong_snat =
-      none_broken same_address same_addresses (claims_of (vip_snat_claims machines) 0 s.vips)
+      none_broken same_ip ip_is (claims_of (vip_snat_claims machines) 0 s.vips)
       (subst Once (sym (keys_claims (vip_snat_claims machines) (λ vip. vip.snat) snat_keys 0 s.vips
       ∙ same_snat s.vips)) keeps.snat)
       (claims_each (λ c. c.fits ≡ true) (λ vip. Each (λ a. In a (all_machines (parts_of s))) vip.snat)

@@ -6,12 +6,13 @@ use Rattle.config_text.specs.declared.vips.VipText.{VipText}
 use Rattle.config_text.specs.Faults.{Fault, field, ◌>>=◌}
 use Rattle.config_text.specs.Form.{settings_of}
 use Rattle.wire_core.specs.declared.address.Ip4.{Ip4}
+use Rattle.wire_core.specs.Same.{same_ip, same_socket}
 use Rattle.vip_config.specs.Claims.{claims_of, first_broken}
 use Rattle.vip_config.specs.Endpoints.{same_endpoint_key, vip_endpoint_claims}
-use Rattle.vip_config.specs.Machines.{machine_claims, machines_of, same_address}
+use Rattle.vip_config.specs.Machines.{machine_claims, machines_of}
 use Rattle.vip_config.specs.Places.{path}
 use Rattle.vip_config.specs.Snat.{vip_snat_claims}
-use Rattle.vip_config.specs.Sockets.{same_socket, socket_claims}
+use Rattle.vip_config.specs.Sockets.{socket_claims}
 use Rattle.vip_config.specs.Vips.{first_wrong_port, vip_claims}
 use Rattle.vip_config.specs.declared.parts.ConfigParts.{ConfigParts}
 use Rattle.vip_config.specs.declared.parts.VipConf.{VipConf}
@@ -23,11 +24,11 @@ shared_socket s = first_broken same_socket [] (socket_claims s.router s.replicas
 
 -- 2. No two machine addresses are equal.
 abbrev pub shared_machine : Settings → Option Place
-shared_machine s = first_broken same_address [] (machine_claims s.agents)
+shared_machine s = first_broken same_ip [] (machine_claims s.agents)
 
 -- 3. No VIP's address is an earlier VIP's or a machine's.
 abbrev pub shared_vip : List (Ip4 × ℕ) → List VipText → Option Place
-shared_vip machines vips = first_broken same_address [] (claims_of (vip_claims machines) 0 vips)
+shared_vip machines vips = first_broken same_ip [] (claims_of (vip_claims machines) 0 vips)
 
 -- 4. Each VIP's ports begin and end where ranges do.
 abbrev pub wrong_port : List VipText → Option Place
@@ -35,7 +36,7 @@ wrong_port vips = first_wrong_port 0 vips
 
 -- 5. Each `snat` address is a machine, and stands once over all.
 abbrev pub wrong_snat : List (Ip4 × ℕ) → List VipText → Option Place
-wrong_snat machines vips = first_broken same_address [] (claims_of (vip_snat_claims machines) 0 vips)
+wrong_snat machines vips = first_broken same_ip [] (claims_of (vip_snat_claims machines) 0 vips)
 
 -- 6. Endpoints have their own ports, and configured machines, each once and each with a port of its own.
 abbrev pub wrong_endpoint : List (Ip4 × ℕ) → List VipText → Option Place

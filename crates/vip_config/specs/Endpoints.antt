@@ -3,6 +3,7 @@ use Rattle.std.specs.Prelude.{ℕ, ◌==◌, Bool, true, false, ◌&&◌, List, 
 use Rattle.wire_core.specs.declared.address.Ip4.{Ip4}
 use Rattle.wire_core.specs.declared.flow.Proto.{Proto}
 use Rattle.wire_core.specs.declared.flow.Proto.TheVariants.{Tcp, Udp}
+use Rattle.wire_core.specs.Same.{same_proto}
 use Rattle.config_text.specs.declared.vips.Endpoint.{Endpoint}
 use Rattle.config_text.specs.declared.vips.Member.{Member}
 use Rattle.config_text.specs.declared.vips.VipText.{VipText}
@@ -12,12 +13,6 @@ use Rattle.vip_config.specs.declared.endpoints.EndpointKey.{EndpointKey}
 use Rattle.vip_config.specs.declared.endpoints.EndpointKey.TheVariants.{Port, MachinePort, Machine}
 use Rattle.vip_config.specs.declared.place.Place.TheVariants.{Endpoint as endpoint_at, Member as member_at}
 use Rattle.vip_config.specs.declared.place.Place.TheVariants.{MemberAddress}
-
-abbrev pub same_proto : Proto → Proto → Bool
-same_proto Tcp Tcp = true
-same_proto Tcp Udp = false
-same_proto Udp Tcp = false
-same_proto Udp Udp = true
 
 abbrev pub same_endpoint_key : EndpointKey → EndpointKey → Bool
 same_endpoint_key (Port v p n) (Port w q m) = (v == w) && same_proto p q && (n == m)

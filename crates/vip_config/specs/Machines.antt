@@ -2,13 +2,11 @@
 use Rattle.std.specs.Prelude.{ℕ, ◌==◌, Bool, true, List, [], ◌∷◌, Option, is_some}
 use Rattle.std.specs.Map.{lookup}
 use Rattle.wire_core.specs.declared.address.Ip4.{Ip4}
+use Rattle.wire_core.specs.Same.{same_ip}
 use Rattle.config_text.specs.declared.agents.AgentConf.{AgentConf}
 use Rattle.config_text.specs.declared.agents.Attach.{Attach}
 use Rattle.vip_config.specs.Claims.{Claim, claim, claims_of, owners_of}
 use Rattle.vip_config.specs.declared.place.Place.TheVariants.{MachineAddress}
-
-abbrev pub same_address : Ip4 → Ip4 → Bool
-same_address a b = a.0 == b.0
 
 abbrev pub address_claims : ℕ → ℕ → Attach → List (Claim Ip4 ℕ)
 address_claims i j machine = claim (MachineAddress i j) machine.address i true ∷ []
@@ -26,7 +24,7 @@ machines_of agents = owners_of (machine_claims agents)
 
 -- the number of a machine's agent
 abbrev pub agent_of : List (Ip4 × ℕ) → Ip4 → Option ℕ
-agent_of machines address = lookup (same_address address) machines
+agent_of machines address = lookup (same_ip address) machines
 
 abbrev pub is_machine : List (Ip4 × ℕ) → Ip4 → Bool
 is_machine machines address = is_some (agent_of machines address)

@@ -7,10 +7,11 @@ use Rattle.wire_core.specs.declared.address.Socket.{Socket}
 use Rattle.config_text.specs.declared.agents.AgentConf.{AgentConf}
 use Rattle.wire_core.specs.declared.node.NodeId.{NodeId}
 use Rattle.wire_core.specs.declared.node.NodeId.TheVariants.{Replica, Mux, Agent}
+use Rattle.wire_core.specs.Same.{same_socket}
 use Rattle.vip_config.specs.Claims.{owners_of}
 use Rattle.vip_config.specs.Machines.{agent_of, machines_of}
 use Rattle.vip_config.specs.Rules.{all_machines, all_sockets}
-use Rattle.vip_config.specs.Sockets.{same_socket, socket_claims}
+use Rattle.vip_config.specs.Sockets.{socket_claims}
 use Rattle.vip_config.specs.declared.counts.Counts.{Counts}
 use Rattle.vip_config.specs.declared.parts.ConfigParts.{ConfigParts}
 use Rattle.vip_config.specs.declared.who.Who.{Who}
@@ -50,8 +51,8 @@ IsOwner c (agent i) = i < length c.agents
 IsOwner c (Machine address) = In address (all_machines c)
 IsOwner c Outside = Unit {0}
 
--- A node's socket is that node's and no other, an attach socket its machine's, and the router's and all others are of the
--- outside; whoever owns a socket is configured. A machine is of the agent that has it, and no other address is a machine.
+-- A node's socket is that node's and no other, an attach socket its machine's, and the router's and all others are of
+-- the outside; whoever owns a socket is configured. A machine is of the agent that has it, and no other address is one.
 pub record KnowsOwners (c : ConfigParts) : Type 0 where
   pub router : who_of c c.router ≡ Outside
   pub nodes : (n : NodeId) (socket : Socket) → socket_of c n ≡ Some socket → who_of c socket ≡ node_owner n

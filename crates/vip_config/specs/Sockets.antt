@@ -9,9 +9,6 @@ use Rattle.vip_config.specs.declared.place.Place.TheVariants.{MachineAttach}
 use Rattle.vip_config.specs.declared.who.Who.{Who}
 use Rattle.vip_config.specs.declared.who.Who.TheVariants.{Replica, Mux, Agent, Machine, Outside}
 
-abbrev pub same_socket : Socket → Socket → Bool
-same_socket a b = (a.ip.0 == b.ip.0) && (a.port == b.port)
-
 abbrev pub replica_claims : ℕ → Socket → List (Claim Socket Who)
 replica_claims i socket = claim (replica_at i) socket (Replica i) true ∷ []
 

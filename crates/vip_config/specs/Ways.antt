@@ -4,8 +4,8 @@ use Rattle.std.specs.List.{flat_map}
 use Rattle.std.specs.Map.{lookup}
 use Rattle.wire_core.specs.declared.address.Ip4.{Ip4}
 use Rattle.wire_core.specs.declared.address.Socket.{Socket}
+use Rattle.wire_core.specs.Same.{same_ip}
 use Rattle.config_text.specs.declared.agents.AgentConf.{AgentConf}
-use Rattle.vip_config.specs.Machines.{same_address}
 use Rattle.vip_config.specs.declared.parts.VipConf.{VipConf}
 
 -- an agent's machines with their sockets
@@ -24,4 +24,4 @@ all_leaves vips = flat_map leaves_of vips
 
 -- each address is found in one list as in the other: with what stands first beside it
 abbrev pub FindsAs : {V : Type 0} → List (Ip4 × V) → List (Ip4 × V) → Type 0
-FindsAs found pairs = (address : Ip4) → lookup (same_address address) found ≡ lookup (same_address address) pairs
+FindsAs found pairs = (address : Ip4) → lookup (same_ip address) found ≡ lookup (same_ip address) pairs

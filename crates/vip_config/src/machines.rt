@@ -1,6 +1,7 @@
 ghost use Rattle.std.specs.Prelude.{◌≡◌, ◌≤◌, length, OnOk};
 ghost use Rattle.vip_config.specs.Claims.{all_claimed, claims_of, Indexes};
-ghost use Rattle.vip_config.specs.Machines.{address_claims, agent_address_claims, machine_claims, same_address};
+ghost use Rattle.vip_config.specs.Machines.{address_claims, agent_address_claims, machine_claims};
+ghost use Rattle.wire_core.specs.Same.{same_ip};
 
 use crate::broken::Broken;
 use crate::place::Place;
@@ -17,7 +18,7 @@ fn claim_addresses(
 ) -> Result<(), NoMemory>
     requires { agent ≤ 256 }
     ensures { OnOk result (walk.new
-        ≡ all_claimed same_address walk.old (claims_of (address_claims agent) 0 machines.now)) }
+        ≡ all_claimed same_ip walk.old (claims_of (address_claims agent) 0 machines.now)) }
 {
     for (j, machine) in machines.iter().enumerate() {
         let place = Place::MachineAddress(agent, j);
@@ -28,7 +29,7 @@ fn claim_addresses(
 
 fn claim_agents(walk: &mut Walk<Ip4, u16>, agents: &[AgentConf]) -> Result<(), NoMemory>
     requires { length agents.now ≤ 256 }
-    ensures { OnOk result (walk.new ≡ all_claimed same_address walk.old (machine_claims agents.now)) }
+    ensures { OnOk result (walk.new ≡ all_claimed same_ip walk.old (machine_claims agents.now)) }
 {
     for (i, agent) in agents.iter().enumerate() {
         claim_addresses(walk, i, agent.machines.as_slice())?;
@@ -40,7 +41,7 @@ fn claim_agents(walk: &mut Walk<Ip4, u16>, agents: &[AgentConf]) -> Result<(), N
 /// stands earlier.
 pub fn index_machines(alloc: Global, agents: &[AgentConf]) -> Result<IndexMap<Ip4, u16>, Broken>
     requires { length agents.now ≤ 256 }
-    ensures { Indexes same_address (machine_claims agents.now) result }
+    ensures { Indexes same_ip (machine_claims agents.now) result }
 {
     let mut walk = Walk::new(alloc);
     claim_agents(&mut walk, agents)?;

@@ -1,7 +1,7 @@
 ghost use Rattle.std.specs.Prelude.{◌≡◌, [], OnOk};
 ghost use Rattle.vip_config.specs.Claims.{Tells, all_claimed, claims_of, first_broken};
-ghost use Rattle.vip_config.specs.Machines.{same_address};
 ghost use Rattle.vip_config.specs.Snat.{snat_claims, vip_snat_claims};
+ghost use Rattle.wire_core.specs.Same.{same_ip};
 
 use crate::broken::Broken;
 use crate::place::Place;
@@ -18,7 +18,7 @@ fn claim_snat(
     snat: &[Ip4],
 ) -> Result<(), NoMemory>
     ensures { OnOk result (walk.new
-        ≡ all_claimed same_address walk.old (claims_of (snat_claims machines.now.entries vip) 0 snat.now)) }
+        ≡ all_claimed same_ip walk.old (claims_of (snat_claims machines.now.entries vip) 0 snat.now)) }
 {
     for (j, address) in snat.iter().enumerate() {
         let fits = machines.contains_key(address);
@@ -33,7 +33,7 @@ fn claim_vips(
     vips: &[VipText],
 ) -> Result<(), NoMemory>
     ensures { OnOk result (walk.new
-        ≡ all_claimed same_address walk.old (claims_of (vip_snat_claims machines.now.entries) 0 vips.now)) }
+        ≡ all_claimed same_ip walk.old (claims_of (vip_snat_claims machines.now.entries) 0 vips.now)) }
 {
     for (i, vip) in vips.iter().enumerate() {
         claim_snat(walk, machines, i, vip.snat.as_slice())?;
@@ -47,7 +47,7 @@ pub fn check_snat(
     machines: &IndexMap<Ip4, u16>,
     vips: &[VipText],
 ) -> Result<(), Broken>
-    ensures { Tells (first_broken same_address []
+    ensures { Tells (first_broken same_ip []
         (claims_of (vip_snat_claims machines.now.entries) 0 vips.now)) result }
 {
     let mut walk = Walk::new(alloc);

@@ -1,7 +1,8 @@
 ghost use Rattle.std.specs.Prelude.{◌≡◌, ◌≤◌, length, OnOk};
 ghost use Rattle.vip_config.specs.Claims.{all_claimed, claims_of, nothing_claimed, Indexes};
-ghost use Rattle.vip_config.specs.Sockets.{agent_claims, mux_claims, replica_claims, same_socket, socket_claims};
+ghost use Rattle.vip_config.specs.Sockets.{agent_claims, mux_claims, replica_claims, socket_claims};
 ghost use Rattle.vip_config.specs.Sockets.{attach_claims};
+ghost use Rattle.wire_core.specs.Same.{same_socket};
 
 use crate::broken::Broken;
 use crate::place::Place;

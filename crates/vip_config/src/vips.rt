@@ -1,7 +1,7 @@
 ghost use Rattle.std.specs.Prelude.{◌≡◌, [], OnOk};
 ghost use Rattle.vip_config.specs.Claims.{Tells, all_claimed, claims_of, first_broken};
-ghost use Rattle.vip_config.specs.Machines.{same_address};
 ghost use Rattle.vip_config.specs.Vips.{first_wrong_port, is_high, is_low, vip_claims, wrong_port};
+ghost use Rattle.wire_core.specs.Same.{same_ip};
 
 use crate::broken::Broken;
 use crate::place::Place;
@@ -17,7 +17,7 @@ fn claim_vips(
     vips: &[VipText],
 ) -> Result<(), NoMemory>
     ensures { OnOk result (walk.new
-        ≡ all_claimed same_address walk.old (claims_of (vip_claims machines.now.entries) 0 vips.now)) }
+        ≡ all_claimed same_ip walk.old (claims_of (vip_claims machines.now.entries) 0 vips.now)) }
 {
     for (i, vip) in vips.iter().enumerate() {
         let fits = !machines.contains_key(&vip.address);
@@ -32,7 +32,7 @@ pub fn check_addresses(
     machines: &IndexMap<Ip4, u16>,
     vips: &[VipText],
 ) -> Result<(), Broken>
-    ensures { Tells (first_broken same_address [] (claims_of (vip_claims machines.now.entries) 0 vips.now)) result }
+    ensures { Tells (first_broken same_ip [] (claims_of (vip_claims machines.now.entries) 0 vips.now)) result }
 {
     let mut walk = Walk::new(alloc);
     claim_vips(&mut walk, machines, vips)?;

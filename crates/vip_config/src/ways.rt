@@ -46,7 +46,8 @@ fn index_attached(alloc: Global, agents: &[AgentConf]) -> Result<IndexMap<Ip4, S
 }
 
 fn add_leaving(index: &mut IndexMap<Ip4, Ip4>, vip: Ip4, machines: &[Ip4]) -> Result<(), NoMemory>
-    ensures { OnOk result (FindsAs index.new.entries (index.old.entries ++ map (λ machine. (machine, vip)) machines.now)) }
+    ensures { OnOk result (FindsAs index.new.entries
+        (index.old.entries ++ map (λ machine. (machine, vip)) machines.now)) }
 {
     for machine in machines {
         add(index, *machine, vip)?;

@@ -11,3 +11,6 @@ pub mod PacketsComputed
 pub mod AgentRunComputed
 pub mod LeasesComputed
 pub mod MachinesComputed
+pub mod MuxLimitsComputed
+pub mod AgentLimitsComputed
+pub mod DirectComputed

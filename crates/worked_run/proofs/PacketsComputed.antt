@@ -17,6 +17,8 @@ refusals = record {
   sum = refl;
   no_vip = refl;
   no_endpoint = refl;
+  other_port = refl;
+  other_vip = refl;
   no_lease = refl;
   last_hop = refl;
   endpoint_last_hop = refl;
@@ -29,6 +31,9 @@ forwards = record {
   reply = refl;
   reply_leaves = refl;
   padded = refl;
+  by_second = refl;
+  second_range = refl;
+  last_range = refl;
   even = refl;
   odd = refl;
 }
@@ -46,6 +51,7 @@ notes = record {
   trusted_newest = refl;
   machine_stays = refl;
   time = refl;
+  later = refl;
 }
 
 pub ticks : Ticks

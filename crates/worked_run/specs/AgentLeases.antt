@@ -2,7 +2,6 @@
 use Rattle.std.specs.Prelude.{ℕ, zero, suc, List, [], ◌∷◌, ◌++◌, ◌≡◌}
 use Rattle.wire_core.specs.Steps.{no_step}
 use Rattle.wire_core.specs.declared.act.Act.TheVariants.{Close, Drop, Hold, Open}
-use Rattle.wire_core.specs.declared.address.Socket.{Socket}
 use Rattle.wire_core.specs.declared.cause.DropCause.TheVariants.{Denied, Late, NotMine, OldGrant, QueueFull, WrongBoot}
 use Rattle.wire_core.specs.declared.entry.Entry.TheVariants.{Boot}
 use Rattle.wire_core.specs.declared.note.Note.TheVariants.{Dropped, Queued}
@@ -10,8 +9,8 @@ use Rattle.wire_core.specs.declared.step.Step.{Step}
 use Rattle.node_spec.specs.Turns.{Turn}
 use Rattle.node_spec.specs.Steps.{step_of}
 use Rattle.agent_spec.specs.Agent.{Agent, opened_agent}
-use Rattle.worked_run.specs.Configs.{run_config, two_each, machine, machine_at, mux_at, replica_at, router_at}
-use Rattle.worked_run.specs.Run.{ask, grant, packet_left, packet_out, reply_wrapped}
+use Rattle.worked_run.specs.Configs.{run_config, two_each, machine, machine_at, replica_at, router_at}
+use Rattle.worked_run.specs.Run.{ask, grant, packet_left, packet_out}
 use Rattle.worked_run.specs.Leasing as leasing
 use Rattle.worked_run.specs.AgentRun.{agent_hears, agent_ticks, connection, gets_range, holds_packet, opened_first}
 use Rattle.worked_run.specs.Steps.{sent, all_five, to_each, sends, does, dropped}

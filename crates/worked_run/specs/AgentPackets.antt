@@ -1,8 +1,6 @@
 -- Rows of the host agent on packets: which ports they leave through, what is handed, and what isn't.
-use Rattle.std.specs.Prelude.{ℕ, List, [], ◌∷◌, Some, None, drop, length, ◌≡◌}
+use Rattle.std.specs.Prelude.{ℕ, List, [], ◌∷◌, drop, length, ◌≡◌}
 use Rattle.wire_core.specs.declared.act.Act.TheVariants.{Close, Drop, Hand, Open}
-use Rattle.wire_core.specs.declared.address.Ip4.{Ip4}
-use Rattle.wire_core.specs.declared.address.Socket.{Socket}
 use Rattle.wire_core.specs.declared.cause.DropCause.TheVariants as cause
 use Rattle.wire_core.specs.declared.connection.Conn.{Conn}
 use Rattle.wire_core.specs.declared.flow.Proto.TheVariants.{Tcp}
@@ -11,7 +9,6 @@ use Rattle.config_text.specs.declared.vips.Endpoint.{Endpoint}
 use Rattle.vip_config.specs.declared.parts.ConfigParts.{ConfigParts}
 use Rattle.node_spec.specs.Turns.{Turn}
 use Rattle.node_spec.specs.Steps.{step_of}
-use Rattle.agent_spec.specs.declared.connection.Connection.{Connection}
 use Rattle.agent_spec.specs.declared.order.Redirection.{Redirection}
 use Rattle.agent_spec.specs.Agent.{Agent}
 use Rattle.agent_spec.specs.Redirects.{on_redirect}
@@ -106,7 +103,10 @@ shared = record run_config {
 -- its first machine has a connection
 abbrev pub shared_open : Agent
 shared_open =
-    (agent_hears shared (agent_hears shared (opened_first shared) (replica_at 0) grant).state machine_at packet_out).state
+    (agent_hears shared
+    (agent_hears shared (opened_first shared) (replica_at 0) grant).state
+    machine_at
+    packet_out).state
 
 -- A reply that is wrapped for another machine than the one that opened the connection.
 pub record ForAnother : Type 0 where

@@ -69,3 +69,31 @@ abbrev pub syn_ack_even_wrapped : List ℕ
 syn_ack_even_wrapped = hex
     (codes "024500003c00004000400426b00a0900010a01000445000028000000003f068f8bc6336407c000020a13880050000000"
     ++ codes "0200000009501220008faa0000")
+
+-- a client opens to a port that nothing serves
+abbrev pub syn_to_81 : List ℕ
+syn_to_81 = hex (codes "02450000280000000040068e8bc6336407c000020a138800510000000100000000500220008fc30000")
+
+-- the reply, wrapped by mux 1
+abbrev pub reply_wrapped_by_second : List ℕ
+reply_wrapped_by_second = hex
+    (codes "024500003200004000400426b90a0900020a0100044500001e0002000037119788c6336407c000020a00350400000a9f"
+    ++ codes "f46f6b")
+
+-- to the last port of all, and wrapped
+abbrev pub reply_last : List ℕ
+reply_last = hex (codes "024500001e0000000040118e8ac6336407c000020a0035ffff000a00006f6b")
+
+abbrev pub reply_last_wrapped : List ℕ
+reply_last_wrapped = hex
+    (codes "024500003200004000400426ba0a0900010a0100044500001e000000003f118f8ac6336407c000020a0035ffff000a00"
+    ++ codes "006f6b")
+
+-- to the first port of the second range, and wrapped
+abbrev pub reply_second : List ℕ
+reply_second = hex (codes "024500001e0000000040118e8ac6336407c000020a00350408000a00006f6b")
+
+abbrev pub reply_second_wrapped : List ℕ
+reply_second_wrapped = hex
+    (codes "024500003200004000400426ba0a0900010a0100044500001e000000003f118f8ac6336407c000020a00350408000a00"
+    ++ codes "006f6b")

@@ -1,5 +1,5 @@
 -- What a machine and replicas say to an agent, and what it says to them.
-use Rattle.std.specs.Prelude.{ℕ, List, ◌++◌, codes}
+use Rattle.std.specs.Prelude.{ℕ, List, codes}
 use Rattle.worked_run.specs.Hex.{hex}
 
 -- from 10.1.0.4:5000 to 198.51.100.8:53, and from port 5001 to the first remote end; as they leave, from ports 1024

@@ -24,3 +24,9 @@ pub mod Delivering
 pub mod AgentRun
 pub mod AgentLeases
 pub mod AgentPackets
+pub mod Long
+pub mod MuxLimits
+pub mod AgentLimits
+pub mod Direct
+pub mod DirectTables
+pub mod DirectRun

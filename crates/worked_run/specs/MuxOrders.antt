@@ -1,6 +1,5 @@
 -- Rows of the mux on commands: which are obeyed, what a row becomes, what is answered.
 use Rattle.std.specs.Prelude.{ℕ, List, [], ◌∷◌, ◌≡◌}
-use Rattle.wire_core.specs.Steps.{no_step}
 use Rattle.wire_core.specs.declared.address.Socket.{Socket}
 use Rattle.wire_core.specs.declared.cause.DropCause.{DropCause}
 use Rattle.wire_core.specs.declared.cause.DropCause.TheVariants.{BadFrame, BadMessage, NotFromMux, NotMine, NotNode}
@@ -9,11 +8,10 @@ use Rattle.wire_core.specs.declared.entry.Entry.TheVariants.{Boot, Epoch}
 use Rattle.wire_core.specs.declared.step.Step.{Step}
 use Rattle.node_spec.specs.Turns.{Turn}
 use Rattle.node_spec.specs.Steps.{step_of}
-use Rattle.mux_spec.specs.declared.gate.Gate.{Gate}
 use Rattle.mux_spec.specs.declared.verdict.RedirectAsk.{RedirectAsk}
 use Rattle.mux_spec.specs.Mux.{Mux, opened_mux}
 use Rattle.mux_spec.specs.Redirects.{on_redirect_ask}
-use Rattle.worked_run.specs.Configs.{two_each, ip, machine, other_machine, machine_at, mux_at, other_mux_at, agent_at}
+use Rattle.worked_run.specs.Configs.{two_each, ip, machine, other_machine, machine_at, other_mux_at, agent_at}
 use Rattle.worked_run.specs.Configs.{other_agent_at, replica_at, router_at}
 use Rattle.worked_run.specs.Run.{hello, program, programmed, reply_in, reply_wrapped}
 use Rattle.worked_run.specs.Orders as orders

@@ -1,24 +1,24 @@
 -- Rows of the mux on packets: whose are taken, where they go, and what is kept of a flow.
-use Rattle.std.specs.Prelude.{ℕ, List, [], ◌∷◌, Some, ◌≡◌}
+use Rattle.std.specs.Prelude.{ℕ, List, [], ◌∷◌, ◌≡◌}
 use Rattle.wire_core.specs.declared.address.Ip4.{Ip4}
-use Rattle.wire_core.specs.declared.address.Socket.{Socket}
 use Rattle.wire_core.specs.declared.cause.DropCause.TheVariants.{WrongRole, NotMine, IpShort, BadSum, NotVip}
 use Rattle.wire_core.specs.declared.cause.DropCause.TheVariants.{NoEndpoint, NoLease, TtlOut}
+use Rattle.wire_core.specs.declared.entry.Entry.TheVariants.{Boot}
 use Rattle.wire_core.specs.declared.flow.FlowKey.{FlowKey}
 use Rattle.wire_core.specs.declared.flow.Proto.TheVariants.{Tcp}
 use Rattle.wire_core.specs.declared.step.Step.{Step}
 use Rattle.config_text.specs.declared.vips.Endpoint.{Endpoint}
 use Rattle.vip_config.specs.declared.parts.ConfigParts.{ConfigParts}
-use Rattle.vip_config.specs.declared.parts.VipConf.{VipConf}
 use Rattle.node_spec.specs.Turns.{Turn}
 use Rattle.node_spec.specs.Steps.{step_of}
 use Rattle.mux_spec.specs.declared.flow.Seen.{Seen}
 use Rattle.mux_spec.specs.Flows.{Flows, FlowList}
-use Rattle.mux_spec.specs.Mux.{Mux}
+use Rattle.mux_spec.specs.Mux.{Mux, opened_mux}
 use Rattle.worked_run.specs.Configs.{two_each, ip, leasing, vip, machine, other_machine, machine_at, other_mux_at}
-use Rattle.worked_run.specs.Configs.{agent_at, other_agent_at, replica_at, router_at}
+use Rattle.worked_run.specs.Configs.{agent_at, other_agent_at, replica_at, router_at, run_config}
 use Rattle.worked_run.specs.Run.{program, reply_in, reply_wrapped}
 use Rattle.worked_run.specs.Arriving as arriving
+use Rattle.worked_run.specs.Orders.{program_last, program_second}
 use Rattle.worked_run.specs.MuxRun.{mux_hears, mux_ticks, opened_first}
 use Rattle.worked_run.specs.Steps.{sent, sends, dropped}
 
@@ -51,6 +51,13 @@ to_first bytes = sends (sent agent_at bytes ∷ [])
 abbrev pub to_second : List ℕ → Step
 to_second bytes = sends (sent other_agent_at bytes ∷ [])
 
+-- the second of two VIPs has the endpoint
+abbrev pub two_vips : ConfigParts
+two_vips = record two_each {
+  vips = leasing 1087 (machine ∷ other_machine ∷ [])
+      ∷ record (leasing 1087 []) { address = ip 192 0 2 20; endpoints = web ∷ [] } ∷ [];
+}
+
 -- Packets come from outside alone; a packet's first fault, then where it goes, then whether it may be sent on.
 pub record Refusals : Type 0 where
   pub replica : step (mux_hears serving with_row (replica_at 0) reply_in) ≡ dropped WrongRole
@@ -61,16 +68,36 @@ pub record Refusals : Type 0 where
   pub sum : step (brings with_row arriving.reply_bad_sum) ≡ dropped BadSum
   pub no_vip : step (brings with_row arriving.reply_no_vip) ≡ dropped NotVip
   pub no_endpoint : step (brings with_row arriving.reply_no_endpoint) ≡ dropped NoEndpoint
+  pub other_port : step (brings with_row arriving.syn_to_81) ≡ dropped NoEndpoint
+  pub other_vip : step_of two_vips (mux_hears two_vips (opened_first two_vips) router_at arriving.syn_even)
+      ≡ dropped NoEndpoint
   pub no_lease : step (brings (opened_first serving) reply_in) ≡ dropped NoLease
   pub last_hop : step (brings with_row arriving.reply_last_hop) ≡ dropped TtlOut
   pub endpoint_last_hop : step (brings with_row arriving.syn_last_hop) ≡ dropped TtlOut
   pub endpoint_last_hop_leaves : (brings with_row arriving.syn_last_hop).state ≡ with_row
 
--- What is sent on: without the bytes behind its total length; by the row of its range; by the hash of its flow.
+-- mux 1 with the row of lease 1
+abbrev pub second_with_row : Mux
+second_with_row = (mux_hears serving (opened_mux serving 1 (Boot 1 2 1 1 ∷ [])) (replica_at 0) program).state
+
+-- mux 0 with a row of the second range, and with one of the last range of all
+abbrev pub with_second_row : Mux
+with_second_row = (mux_hears serving (opened_first serving) (replica_at 0) program_second).state
+
+abbrev pub with_last_row : Mux
+with_last_row = (mux_hears run_config (opened_first run_config) (replica_at 0) program_last).state
+
+-- What is sent on: without the bytes behind its total length; by the row of its range; by the hash of its flow; from
+-- the mux's own address.
 pub record Forwards : Type 0 where
   pub reply : step (brings with_row reply_in) ≡ to_first reply_wrapped
   pub reply_leaves : (brings with_row reply_in).state ≡ with_row
   pub padded : step (brings with_row arriving.reply_padded) ≡ to_first reply_wrapped
+  pub by_second : step (mux_hears serving second_with_row router_at reply_in)
+      ≡ to_first arriving.reply_wrapped_by_second
+  pub second_range : step (brings with_second_row arriving.reply_second) ≡ to_first arriving.reply_second_wrapped
+  pub last_range : step_of run_config (mux_hears run_config with_last_row router_at arriving.reply_last)
+      ≡ to_first arriving.reply_last_wrapped
   pub even : step (brings with_row arriving.syn_even) ≡ to_first arriving.syn_even_wrapped
   pub odd : step (brings with_row arriving.syn_odd) ≡ to_second arriving.syn_odd_wrapped
 
@@ -125,6 +152,8 @@ pub record Notes : Type 0 where
       ≡ to_second arriving.syn_even_wrapped_other
   pub time : (brings (record with_row { time = 7 }) arriving.syn_even).state.flows
       ≡ record { untrusted = (flow 5000, seen machine 1 7) ∷ []; trusted = [] }
+  pub later : (brings (record two_trusted { time = 7 }) arriving.segment_even).state.flows
+      ≡ record { untrusted = []; trusted = (flow 5000, seen machine 3 7) ∷ (flow 5001, seen other_machine 2 0) ∷ [] }
 
 -- A tick: flows that are idle for 60 seconds leave, the others stay as they are. The time is the greater of both.
 pub record Ticks : Type 0 where

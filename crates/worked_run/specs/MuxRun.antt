@@ -1,8 +1,7 @@
 -- The mux in the run: what each of its lines says.
 use Rattle.std.specs.Prelude.{ℕ, List, [], ◌∷◌, ◌≡◌}
 use Rattle.wire_core.specs.declared.address.Socket.{Socket}
-use Rattle.wire_core.specs.declared.entry.Entry.TheVariants.{Boot, Epoch}
-use Rattle.wire_core.specs.declared.step.Step.{Step}
+use Rattle.wire_core.specs.declared.entry.Entry.TheVariants.{Boot}
 use Rattle.vip_config.specs.declared.parts.ConfigParts.{ConfigParts}
 use Rattle.node_spec.specs.Turns.{Arrived, Ticked, Turn}
 use Rattle.node_spec.specs.Steps.{step_of}

@@ -1,5 +1,5 @@
 -- What replicas and muxes say to muxes, and what these answer and make durable.
-use Rattle.std.specs.Prelude.{ℕ, List, ◌++◌, codes}
+use Rattle.std.specs.Prelude.{ℕ, List, codes}
 use Rattle.worked_run.specs.Hex.{hex}
 
 -- entries: epoch 5, and those above it
@@ -80,3 +80,11 @@ redirect_opener = hex (codes "010117000000000000000001c000020a0400c000021400500a
 
 abbrev pub redirect_server : List ℕ
 redirect_server = hex (codes "010117010000000000000001c000020a0400c000021400500a0100040a010005")
+
+-- lease 1 on the last range of all
+abbrev pub program_last : List ℕ
+program_last = hex (codes "010110000000000000000500000000000000010000000000000001c000020afff80a010004")
+
+-- lease 1 on the second range
+abbrev pub program_second : List ℕ
+program_second = hex (codes "010110000000000000000500000000000000010000000000000001c000020a04080a010004")

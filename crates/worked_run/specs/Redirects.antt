@@ -1,5 +1,5 @@
 -- Messages of connections that do without a mux.
-use Rattle.std.specs.Prelude.{ℕ, List, ◌++◌, codes}
+use Rattle.std.specs.Prelude.{ℕ, List, codes}
 use Rattle.worked_run.specs.Hex.{hex}
 
 -- what only a mux says

@@ -1,4 +1,5 @@
 ghost use Rattle.worked_run.specs.AgentLeases.{Answered, AsksAgain, Denies, GrantsTaken, Holds, Idles};
+ghost use Rattle.worked_run.specs.AgentLimits.{LongPackets, TablesFull};
 ghost use Rattle.worked_run.specs.AgentPackets.{Endpoints, ForAnother, Ports, Redirects, Resets, Undelivered, Unsent};
 ghost use Rattle.worked_run.specs.AgentPackets.{Untaken};
 ghost use Rattle.worked_run.specs.AgentRun.{AgentLines};
@@ -28,4 +29,10 @@ pub fn machines_rows()
     ensures endpoints { Endpoints }
     ensures redirects { Redirects }
     ensures untaken { Untaken }
+{}
+
+/// What an agent does at its limits: lists that are full, and a packet that is too long to wrap.
+pub fn agent_limits()
+    ensures full { TablesFull }
+    ensures long { LongPackets }
 {}

@@ -1,3 +1,4 @@
+ghost use Rattle.worked_run.specs.MuxLimits.{FlowsFull, TooLongToWrap};
 ghost use Rattle.worked_run.specs.MuxOrders.{IsRefused, NotIts, Programs, Redirects, Unprograms, Untaken};
 ghost use Rattle.worked_run.specs.MuxPackets.{Forwards, Notes, Refusals, Ticks};
 ghost use Rattle.worked_run.specs.MuxRun.{MuxLines};
@@ -23,4 +24,10 @@ pub fn packets_rows()
     ensures forwards { Forwards }
     ensures notes { Notes }
     ensures ticks { Ticks }
+{}
+
+/// What a mux does at its limits: packets that are too long to wrap, and lists of flows that are full.
+pub fn mux_limits()
+    ensures long { TooLongToWrap }
+    ensures full { FlowsFull }
 {}

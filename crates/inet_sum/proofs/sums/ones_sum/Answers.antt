@@ -6,7 +6,9 @@ pub loop-left-preserved : goal.loop-left-preserved
 loop-left-preserved c =
     let room : 65536 ≤ length c.loop-left.left.now = omega arith in
     let front = rw c.split_at.ensures.front at c.block_sum.ensures.sum in
-    let more = block_more c.loop-left.sum c.block_sum.result 65536 c.loop-left.left.now _ c.loop-left.invariant.whole refl room front in
+    let more =
+    block_more c.loop-left.sum c.block_sum.result 65536 c.loop-left.left.now _ c.loop-left.invariant.whole refl room
+    front in
     record {
       whole = rw (c.fold-sum.ensures, c.from.ensures, c.split_at.ensures.back) more;
       word = c.fold-sum.type_inv;

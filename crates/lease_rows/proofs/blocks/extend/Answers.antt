@@ -1,22 +1,29 @@
-use Rattle.std.proofs.Common.{◌≡◌, ◌≤◌, ◌<◌, ◌+◌, ◌-◌, ◌*◌, ◌/◌, ◌++◌, List, [], ◌∷◌, length, take, drop, set, sym, ap, subst, ◌∙◌, arith, length-append}
-use Rattle.lease_rows.specs.declared.entries.Entry.{Entry}
-use Rattle.lease_rows.specs.Blocks.{IsBlocked, block_of}
-use Rattle.lease_rows.proofs.EntryBlocks.{blocked-more, blocked-next}
+use Rattle.std.proofs.Common.{◌≡◌, ◌<◌, ◌≤◌, ◌*◌, ◌/◌, ◌++◌, [], ◌∷◌, length, take, drop, refl, sym, subst, ◌∙◌, arith}
+use Rattle.lease_rows.specs.Blocks.{IsBlocked}
+use Rattle.lease_rows.proofs.EntryBlocks.{blocked-more, blocked-next, empty_block, entered, few_block}
 use Rattle.lease_rows.proofs.blocks.extend.Goals as goal
 
+pub with-requires : goal.with-requires
+with-requires c =
+    let j = length c.args.entries.now / 64 in
+    let inside : j < length c.args.blocks.now.items = omega (arith, c.if-number-len.true, c.len.ensures) in
+    few_block 64 (drop (64 * j) c.args.entries.now) c.index.result.now (omega arith) (c.index.ensures ∙ c.requires.blocks.each j _ inside)
+
 pub returns-then-number-len-clause-blocks : goal.returns-then-number-len-clause-blocks
-returns-then-number-len-clause-blocks c = λ es e is h.
-    let j = (length c.args.entries.now - 1) / 64 in
-    let long : length c.args.entries.now ≡ length es + 1 = ap length is ∙ length-append es (e ∷ []) in
-    let block = c.block_at-block.ensures ∙ ap (λ (xs : List Entry). block_of (take 64 (drop (64 * j) xs))) is in
-    subst (λ (xs : List Entry). IsBlocked (set c.args.blocks.now.items j c.block_at-block.result) xs) (sym is)
-    (blocked-more c.args.blocks.now.items es e j c.block_at-block.result h (omega (arith, long)) (omega (arith, long)) (omega (arith, c.if-number-len.true, c.len.ensures)) block)
+returns-then-number-len-clause-blocks c =
+    let es = c.args.entries.now in
+    let j = length es / 64 in
+    let inside : j < length c.args.blocks.now.items = omega (arith, c.if-number-len.true, c.len.ensures) in
+    let now = entered 64 (64 * j) es c.args.new c.index.result.now (omega arith) (omega arith)
+    (c.index.ensures ∙ c.requires.blocks.each j _ inside) in
+    blocked-more c.args.blocks.now.items es c.args.new j c.with.result c.requires.blocks (omega arith) (omega arith) inside (c.with.ensures ∙ now)
 
 pub returns-else-number-len-clause-blocks : goal.returns-else-number-len-clause-blocks
-returns-else-number-len-clause-blocks c = λ es e is h.
-    let j = (length c.args.entries.now - 1) / 64 in
-    let long : length c.args.entries.now ≡ length es + 1 = ap length is ∙ length-append es (e ∷ []) in
-    let block = c.block_at-block.ensures ∙ ap (λ (xs : List Entry). block_of (take 64 (drop (64 * j) xs))) is in
-    subst (λ blocks. IsBlocked blocks c.args.entries.now) (sym c.push_reserved.ensures.items)
-    (subst (λ (xs : List Entry). IsBlocked (c.args.blocks.now.items ++ c.block_at-block.result ∷ []) xs) (sym is)
-    (blocked-next c.args.blocks.now.items es e j c.block_at-block.result h (omega (arith, long)) (omega (arith, long)) (omega (arith, c.if-number-len.false, c.len.ensures)) block))
+returns-else-number-len-clause-blocks c =
+    let es = c.args.entries.now in
+    let j = length es / 64 in
+    let past : length c.args.blocks.now.items ≤ j = omega (arith, c.if-number-len.false, c.len.ensures) in
+    let covers = c.requires.blocks.covers in
+    let now = entered 64 (64 * j) es c.args.new _ (omega arith) (omega arith) (empty_block 64 (64 * j) es (omega (arith, covers, past))) in
+    subst (λ blocks. IsBlocked blocks (es ++ c.args.new ∷ [])) (sym c.push_reserved.ensures.items)
+    (blocked-next c.args.blocks.now.items es c.args.new j c.with-else-number-len.result c.requires.blocks (omega arith) (omega arith) past (c.with-else-number-len.ensures ∙ now))

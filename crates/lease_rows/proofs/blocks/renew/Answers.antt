@@ -1,12 +1,23 @@
-use Rattle.std.proofs.Common.{◌≡◌, ◌*◌, ◌/◌, List, take, drop, set, sym, ap, subst, ◌∙◌, arith}
-use Rattle.lease_rows.specs.declared.entries.Entry.{Entry}
-use Rattle.lease_rows.specs.Blocks.{IsBlocked, block_of}
-use Rattle.lease_rows.proofs.EntryBlocks.{blocked-put}
+use Rattle.std.proofs.Common.{◌≡◌, ◌<◌, ◌*◌, ◌/◌, length, ◌∙◌, arith}
+use Rattle.lease_rows.proofs.EntryBlocks.{blocked-put, counts_in, recounted}
 use Rattle.lease_rows.proofs.blocks.renew.Goals as goal
 
-pub returns-then-number-len-clause-blocks : goal.returns-then-number-len-clause-blocks
-returns-then-number-len-clause-blocks c = λ es e is h.
+pub changed-requires : goal.changed-requires
+changed-requires c =
     let j = c.args.i / 64 in
-    let block = c.block_at.ensures ∙ ap (λ (xs : List Entry). block_of (take 64 (drop (64 * j) xs))) is in
-    subst (λ (xs : List Entry). IsBlocked (set c.args.blocks.now.items j c.block_at.result) xs) (sym is)
-    (blocked-put c.args.blocks.now.items es c.args.i e j c.block_at.result h (omega arith) (omega arith) block)
+    let covers = c.requires.blocks.covers in
+    let within = c.requires.within in
+    let inside : j < length c.args.blocks.now.items = omega (arith, covers, within) in
+    counts_in 64 (64 * j) c.args.i c.args.entries.now _ c.index.result.now (omega arith) (omega arith) (omega arith) within
+    (c.index.ensures ∙ c.requires.blocks.each j _ inside)
+
+pub returns-clause-blocks : goal.returns-clause-blocks
+returns-clause-blocks c =
+    let j = c.args.i / 64 in
+    let es = c.args.entries.now in
+    let covers = c.requires.blocks.covers in
+    let within = c.requires.within in
+    let inside : j < length c.args.blocks.now.items = omega (arith, covers, within) in
+    let now = recounted 64 (64 * j) c.args.i es c.args.new _ c.index.result.now c.changed.result (omega arith) (omega arith) within
+    (c.index.ensures ∙ c.requires.blocks.each j _ inside) c.changed.ensures in
+    blocked-put c.args.blocks.now.items es c.args.i c.args.new j c.changed.result c.requires.blocks (omega arith) (omega arith) now

@@ -1,8 +1,9 @@
 use Rattle.std.proofs.Common.{ap, ◌∙◌}
 use Rattle.vip_config.specs.Claims.{all_claimed}
-use Rattle.vip_config.specs.Sockets.{agent_claims, same_socket}
+use Rattle.vip_config.specs.Sockets.{agent_claims}
 use Rattle.vip_config.proofs.Walks.{one_more}
 use Rattle.vip_config.proofs.sockets.claim_agents.Goals as goal
+use Rattle.wire_core.specs.Same.{same_socket}
 
 pub loop-i-preserved : goal.loop-i-preserved
 loop-i-preserved c =

@@ -1,6 +1,7 @@
-use Rattle.vip_config.specs.Sockets.{attach_claims, same_socket}
+use Rattle.vip_config.specs.Sockets.{attach_claims}
 use Rattle.vip_config.proofs.Walks.{one_more}
 use Rattle.vip_config.proofs.sockets.claim_attached.Goals as goal
+use Rattle.wire_core.specs.Same.{same_socket}
 
 pub loop-j-preserved : goal.loop-j-preserved
 loop-j-preserved c =

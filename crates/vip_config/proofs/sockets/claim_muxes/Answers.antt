@@ -1,6 +1,7 @@
-use Rattle.vip_config.specs.Sockets.{mux_claims, same_socket}
+use Rattle.vip_config.specs.Sockets.{mux_claims}
 use Rattle.vip_config.proofs.Walks.{one_more}
 use Rattle.vip_config.proofs.sockets.claim_muxes.Goals as goal
+use Rattle.wire_core.specs.Same.{same_socket}
 
 pub loop-i-preserved : goal.loop-i-preserved
 loop-i-preserved c =

@@ -2,9 +2,10 @@ use Rattle.std.proofs.Common.{◌≡◌, true, [], ◌∷◌, ◌++◌, ap, ◌�
 use Rattle.vip_config.specs.declared.place.Place.TheVariants.{Router}
 use Rattle.vip_config.specs.declared.who.Who.TheVariants.{Outside}
 use Rattle.vip_config.specs.Claims.{all_claimed, claim, claims_of, nothing_claimed}
-use Rattle.vip_config.specs.Sockets.{agent_claims, mux_claims, replica_claims, same_socket, socket_claims}
+use Rattle.vip_config.specs.Sockets.{agent_claims, mux_claims, replica_claims, socket_claims}
 use Rattle.vip_config.proofs.Walks.{ends, goes_on}
 use Rattle.vip_config.proofs.sockets.index_sockets.Goals as goal
+use Rattle.wire_core.specs.Same.{same_socket}
 
 pub returns : goal.returns
 returns c =

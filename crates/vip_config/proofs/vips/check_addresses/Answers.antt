@@ -1,12 +1,12 @@
 use Rattle.std.proofs.Common.{ap, ◌∙◌}
 use Rattle.vip_config.specs.Claims.{all_claimed, claims_of}
 use Rattle.vip_config.specs.Vips.{vip_claims}
-use Rattle.vip_config.specs.Machines.{same_address}
 use Rattle.vip_config.proofs.Walks.{tells}
 use Rattle.vip_config.proofs.vips.check_addresses.Goals as goal
+use Rattle.wire_core.specs.Same.{same_ip}
 
 pub returns : goal.returns
 returns c =
     let claims = claims_of (vip_claims c.args.machines.now.entries) 0 c.args.vips.now in
-    tells same_address claims c.claim_vips.new.walk c.check.result
-    (c.in_ok-claim_vips.ensures ∙ ap (λ w. all_claimed same_address w claims) c.new-walk.ensures) c.check.ensures
+    tells same_ip claims c.claim_vips.new.walk c.check.result
+    (c.in_ok-claim_vips.ensures ∙ ap (λ w. all_claimed same_ip w claims) c.new-walk.ensures) c.check.ensures

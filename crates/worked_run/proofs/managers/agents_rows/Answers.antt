@@ -1,4 +1,5 @@
-use Rattle.worked_run.proofs.AgentsComputed.{only_primary, asks, asks_again, queues, denies, returns, ups, proposes_after}
+use Rattle.worked_run.proofs.AgentsComputed.{only_primary, asks, asks_again, queues, denies, returns, ups}
+use Rattle.worked_run.proofs.AgentsComputed.{proposes_after}
 use Rattle.worked_run.proofs.managers.agents_rows.Goals as goal
 
 pub returns-clause-only_primary : goal.returns-clause-only_primary

@@ -1,4 +1,5 @@
-use Rattle.worked_run.proofs.MuxesComputed.{hellos, acknowledges, acknowledges_twice, grants_due, freed_due, pushes, pushes_some, proposes, orders}
+use Rattle.worked_run.proofs.MuxesComputed.{hellos, acknowledges, acknowledges_twice, grants_due, freed_due, pushes}
+use Rattle.worked_run.proofs.MuxesComputed.{pushes_some, proposes, orders}
 use Rattle.worked_run.proofs.managers.muxes_rows.Goals as goal
 
 pub returns-clause-hellos : goal.returns-clause-hellos

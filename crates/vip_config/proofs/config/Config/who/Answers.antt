@@ -2,9 +2,9 @@ use Rattle.std.proofs.Common.{◌≡◌, Some, ap, sym, ◌∙◌, unwrap_or}
 use Rattle.std.specs.Map.{lookup}
 use Rattle.std.specs.Option.{option_copied}
 use Rattle.vip_config.specs.Queries.{who_of}
-use Rattle.vip_config.specs.Sockets.{same_socket}
 use Rattle.vip_config.specs.declared.who.Who.TheVariants.{Outside}
 use Rattle.vip_config.proofs.config.Config.who.Goals as goal
+use Rattle.wire_core.specs.Same.{same_socket}
 
 pub returns-in-Some : goal.returns-in-Some
 returns-in-Some c =

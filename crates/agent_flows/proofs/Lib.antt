@@ -1,0 +1,3 @@
+pub mod Marked
+pub mod Looks
+pub mod Kept

@@ -1,0 +1,6 @@
+use Rattle.std.proofs.Common.{rules, not, ◌==◌, ℕ}
+use Rattle.std.proofs.lemmas.Fn.{filter_same}
+use Rattle.lease_model.proofs.conns.remove_number.Goals as goal
+
+pub returns : goal.returns
+returns c = filter_same _ (λ (m : ℕ). not (m == c.args.n)) _ (λ x b f k. search rules) _ _ c.retain.ensures.filtered
