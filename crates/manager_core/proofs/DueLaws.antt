@@ -3,9 +3,15 @@ use Rattle.std.proofs.Common.{◌≡◌, ◌≤◌, ◌<◌, refl, sym, ap, ◌�
 use Rattle.std.specs.Prelude.{◌==◌, if◌then◌else◌, min}
 use Rattle.std.proofs.lemmas.List.{length-append}
 use Rattle.std.proofs.lemmas.Bool.Decides.{nat_tests}
-use Rattle.wire_core.specs.Commands.{LogCommand, AscendsFrom}
+use Rattle.wire_core.specs.Commands.{LogCommand, AscendsFrom, Granted}
+use Rattle.wire_core.specs.declared.command.MuxBoot.{MuxBoot}
+use Rattle.vip_config.specs.declared.parts.ConfigParts.{ConfigParts}
+use Rattle.lease_spec.specs.declared.row.Row.{Row}
+use Rattle.lease_spec.specs.Table.{is_being}
+use Rattle.manager_spec.specs.Manager.{Manager}
+use Rattle.manager_spec.specs.Known.{running, marks_at}
 use Rattle.manager_spec.specs.declared.peer.Peer.{Peer}
-use Rattle.manager_spec.specs.Proposal.{mux_boot}
+use Rattle.manager_spec.specs.Proposal.{mux_boot, holders, is_granted, grant_due}
 use Rattle.manager_core.specs.Seen.{NumberedFrom}
 
 -- ---- muxes stand by their numbers
@@ -59,6 +65,30 @@ holders_few p q ps few =
     let b = filter_few p (filter q ps) in
     let c = filter_few q ps in
     omega arith
+
+-- the same of a list that is said to be theirs
+pub pairs_ascend : (p q : Peer → Bool) (ps : List Peer) (pairs : List MuxBoot)
+    → pairs ≡ map mux_boot (filter p (filter q ps)) → NumberedFrom 0 ps → AscendsFrom 0 pairs
+pairs_ascend p q ps pairs e numbered = rw e (holders_ascend p q ps numbered)
+
+pub pairs_few : (p q : Peer → Bool) (ps : List Peer) (pairs : List MuxBoot)
+    → pairs ≡ map mux_boot (filter p (filter q ps)) → length ps ≤ 16 → length pairs ≤ 16
+pairs_few p q ps pairs e few = rw e (holders_few p q ps few)
+
+-- what is due of a row that muxes have, and of one that they don't
+granted_by : (b g : Bool) (xs : List LogCommand) → g ≡ false → (if b && g then xs else []) ≡ []
+granted_by true false xs e = refl
+granted_by false g xs e = refl
+granted_by true true xs e = absurd (cc)
+
+pub granted_none : (cfg : ConfigParts) (r : Manager) (row : Row)
+    → is_granted cfg r (marks_at r.acks row.n) ≡ false → grant_due cfg r row ≡ []
+granted_none cfg r row e = granted_by (is_being row.phase) _ _ e
+
+pub granted_one : (cfg : ConfigParts) (r : Manager) (row : Row)
+    → is_being row.phase ≡ true → is_granted cfg r (marks_at r.acks row.n) ≡ true
+    → grant_due cfg r row ≡ Granted row.n (map mux_boot (holders (running r) (marks_at r.acks row.n))) ∷ []
+granted_one cfg r row e f = rw (e, f) refl
 
 pub no_holders : (ps : List Peer) → length (map mux_boot ps) ≡ length ps
 no_holders ps = map_few ps

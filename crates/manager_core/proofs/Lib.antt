@@ -7,3 +7,4 @@ pub mod PeerLaws
 pub mod DueLaws
 pub mod ZeroLaws
 pub mod WalkLaws
+pub mod PushLaws

@@ -86,14 +86,9 @@ fn all_acked_ever(peers: &[Peer], boots: &[u64]) -> bool
     peers.iter().all(|peer| is_acked_ever(boots, peer))
 }
 
-/// The muxes that have the row in their known boot, with that boot.
-fn holders(alloc: Global, peers: &[Peer], marks: &Marks) -> Result<Vec<MuxBoot>, NoMemory>
-    requires numbered { NumberedFrom 0 peers.now }
-    requires few { length peers.now ≤ 16 }
-    ensures pairs { IfOk result (λ pairs.
-        pairs.items ≡ map mux_boot (holders (filter has_boot peers.now) marks.now)) }
-    ensures ascend { IfOk result (λ pairs. AscendsFrom 0 pairs.items) }
-    ensures few { IfOk result (λ pairs. length pairs.items ≤ 16) }
+/// Each mux that has the row in its known boot, with that boot.
+fn collect_holders(alloc: Global, peers: &[Peer], marks: &Marks) -> Result<Vec<MuxBoot>, NoMemory>
+    ensures { IfOk result (λ pairs. pairs.items ≡ map mux_boot (holders (filter has_boot peers.now) marks.now)) }
 {
     let mut pairs = Vec::new(alloc);
     for peer in peers {
@@ -104,6 +99,20 @@ fn holders(alloc: Global, peers: &[Peer], marks: &Marks) -> Result<Vec<MuxBoot>,
             })?;
         }
     }
+    Ok(pairs)
+}
+
+/// The same: at most 16, by their numbers.
+#[tactic(auto, using(crate::proofs::DueLaws::pairs_ascend, crate::proofs::DueLaws::pairs_few))]
+fn holders(alloc: Global, peers: &[Peer], marks: &Marks) -> Result<Vec<MuxBoot>, NoMemory>
+    requires numbered { NumberedFrom 0 peers.now }
+    requires few { length peers.now ≤ 16 }
+    ensures pairs { IfOk result (λ pairs.
+        pairs.items ≡ map mux_boot (holders (filter has_boot peers.now) marks.now)) }
+    ensures ascend { IfOk result (λ pairs. AscendsFrom 0 pairs.items) }
+    ensures few { IfOk result (λ pairs. length pairs.items ≤ 16) }
+{
+    let pairs = collect_holders(alloc, peers, marks)?;
     Ok(pairs)
 }
 
@@ -123,8 +132,11 @@ impl Manager {
         requires { length value.old < 16 }
         ensures { OnOk result (value.new ≡ value.old ++ grant_due self.now.config self.now.lists row) }
     {
+        if row.phase != Phase::BeingLeased {
+            return Ok(());
+        }
         let marks = marks_at(&self.acks, row.n);
-        if row.phase != Phase::BeingLeased || !self.is_granted(&marks) {
+        if !self.is_granted(&marks) {
             return Ok(());
         }
         let holders = holders(self.alloc, self.muxes.as_slice(), &marks)?;
@@ -147,7 +159,6 @@ impl Manager {
     }
 
     /// The first of what is due for rows that are BeingLeased, by number, until the value is full.
-    #[tactic(auto, using(crate::proofs::WalkLaws::grants_in, crate::proofs::DueLaws::full_takes, crate::proofs::DueLaws::rest_takes))]
     fn add_grants(&self, value: &mut ValueBuilder) -> Result<(), NoMemory>
         requires { self.now.sound ≡ true }
         ensures { OnOk result (value.new ≡ take 16 (value.old
@@ -165,7 +176,6 @@ impl Manager {
     }
 
     /// The first of what is due for rows that are Freeing, by number, until the value is full.
-    #[tactic(auto, using(crate::proofs::WalkLaws::freeds_in, crate::proofs::DueLaws::full_takes, crate::proofs::DueLaws::rest_takes))]
     fn add_freeds(&self, value: &mut ValueBuilder) -> Result<(), NoMemory>
         requires { self.now.sound ≡ true }
         ensures { OnOk result (value.new ≡ take 16 (value.old

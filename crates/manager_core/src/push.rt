@@ -75,7 +75,7 @@ fn push_one(
 }
 
 /// The same of each mux that isn't silent.
-#[tactic(auto, using(crate::proofs::TurnLaws::pushed_next))]
+#[tactic(auto, using(crate::proofs::TurnLaws::pushed_next, crate::proofs::TurnLaws::no_room, crate::proofs::TurnLaws::none_pushed, crate::proofs::PushLaws::room_next))]
 fn push_each(
     alloc: Global,
     cfg: &Config,
