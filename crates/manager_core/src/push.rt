@@ -1,4 +1,4 @@
-ghost use Rattle.std.specs.Prelude.{◌≡◌, ◌-◌, filter, length, take, true, IfOk, OnOk};
+ghost use Rattle.std.specs.Prelude.{◌≡◌, ◌-◌, ◌∷◌, [], filter, length, take, true, IfOk, OnOk};
 ghost use Rattle.std.specs.List.{flat_map};
 ghost use Rattle.manager_core.specs.Seen.{sends_of};
 ghost use Rattle.manager_spec.specs.Known.{is_near};
@@ -74,8 +74,30 @@ fn push_one(
     }
 }
 
-/// The same of each mux that isn't silent.
-#[tactic(auto, using(crate::proofs::TurnLaws::pushed_next, crate::proofs::TurnLaws::no_room, crate::proofs::TurnLaws::none_pushed, crate::proofs::PushLaws::room_next))]
+/// The same, unless the mux is silent.
+#[tactic(auto, using(crate::proofs::TurnLaws::none_pushed))]
+fn push_near(
+    alloc: Global,
+    cfg: &Config,
+    out: &mut Step,
+    pushed: &Pushed,
+    peer: &Peer,
+    time: u64,
+    room: usize,
+) -> Result<usize, NoMemory>
+    ensures sends { OnOk result (out.new ≡ with_sends (flat_map (outgoing cfg.now) (take room (flat_map
+        (push_one pushed.now.epoch pushed.now.row pushed.now.marks) (filter (is_near cfg.now time) (peer.now ∷ []))))) out.old) }
+    ensures room { IfOk result (λ left. left ≡ room - length (flat_map
+        (push_one pushed.now.epoch pushed.now.row pushed.now.marks) (filter (is_near cfg.now time) (peer.now ∷ [])))) }
+{
+    if !is_near(cfg, time, peer) {
+        return Ok(room);
+    }
+    push_one(alloc, cfg, out, pushed, peer, room)
+}
+
+/// The same of each mux.
+#[tactic(auto, using(crate::proofs::TurnLaws::pushed_next, crate::proofs::TurnLaws::none_pushed, crate::proofs::PushLaws::near_next, crate::proofs::PushLaws::room_more))]
 fn push_each(
     alloc: Global,
     cfg: &Config,
@@ -92,9 +114,7 @@ fn push_each(
 {
     let mut left = room;
     for peer in peers {
-        if is_near(cfg, time, peer) {
-            left = push_one(alloc, cfg, out, pushed, peer, left)?;
-        }
+        left = push_near(alloc, cfg, out, pushed, peer, time, left)?;
     }
     Ok(left)
 }
