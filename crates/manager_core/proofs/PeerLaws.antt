@@ -1,11 +1,7 @@
 -- What is known of muxes: they stand by their numbers.
 use Rattle.std.proofs.Common.{◌≡◌, ◌≤◌, ◌<◌, take, refl, sym, ap, ◌∙◌, ◌++◌, ℕ, zero, suc, ◌+◌, Bool, true, false}
 use Rattle.std.proofs.Common.{not, ◌&&◌, nat_lt, List, [], ◌∷◌, length, slice_set, arith}
-use Rattle.std.specs.Prelude.{if◌then◌else◌, fold, Result, Ok, Err}
-use Rattle.wire_core.specs.declared.entry.Entry.{Entry}
-use Rattle.wire_core.specs.declared.value.ValueFault.{ValueFault}
-use Rattle.node_spec.specs.Bodies.{with_entry}
-use Rattle.paxos_spec.specs.Acceptor.{AcceptorState, follow}
+use Rattle.std.specs.Prelude.{if◌then◌else◌}
 use Rattle.paxos_spec.specs.Leader.{is_follower}
 use Rattle.paxos_spec.specs.Replica.{Memory}
 use Rattle.paxos_spec.specs.Events.{on_epoch}
@@ -83,9 +79,3 @@ peers_few ss few = let e = peers_length 0 ss in omega arith
 pub peers_numbered : (k : ℕ) (ss : List Socket) → NumberedFrom k (new_peers k ss)
 peers_numbered k [] = tt
 peers_numbered k (x ∷ xs) = (refl, peers_numbered (k + 1) xs)
-
--- a body's entry, and then the rest
-pub body_next : (a : AcceptorState) (x : Result Entry ValueFault) (es : List Entry)
-    → fold follow a (with_entry x es) ≡ fold follow (fold follow a (with_entry x [])) es
-body_next a (Ok e) es = refl
-body_next a (Err fault) es = refl

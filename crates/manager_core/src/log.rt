@@ -87,7 +87,7 @@ impl LeaseLog {
     pub fn new(alloc: Global, rules: LeaseRules) -> Result<LeaseLog, NoMemory>
         ensures { IfOk result (λ log. log ≡ record { rules = rules; replica = new_replica; sound = true }) }
     {
-        let replica = Replica::new(alloc)?;
+        let replica = Replica::new(alloc);
         let table = Table::new(alloc, rules)?;
         Ok(LeaseLog {
             alloc,

@@ -1,7 +1,7 @@
-ghost use Rattle.std.specs.Prelude.{◌≡◌, ◌<◌, ◌≤◌, [], fold, length, true, IfOk, OnOk};
+ghost use Rattle.std.specs.Prelude.{◌≡◌, ◌<◌, ◌≤◌, fold, length, true, IfOk, OnOk};
 ghost use Rattle.manager_core.specs.Seen.{NumberedFrom};
 ghost use Rattle.manager_spec.specs.Manager.{new_peers, opened_manager};
-ghost use Rattle.node_spec.specs.Bodies.{entries_of, with_entry};
+ghost use Rattle.node_spec.specs.Bodies.{entries_of, entry_in};
 ghost use Rattle.paxos_spec.specs.Acceptor.{follow, state_of};
 ghost use Rattle.paxos_spec.specs.Replica.{new_memory};
 ghost use Rattle.wire_core.specs.Entries.{read_entry};
@@ -20,7 +20,7 @@ fn recover_body(log: &mut LeaseLog, body: &EntryBytes) -> Result<(), NoMemory>
     requires { log.old.sound ≡ true }
     ensures { OnOk result (log.new ≡ record log.old {
       replica = record {
-        acceptor = fold follow log.old.replica.acceptor (with_entry (read_entry body.now) []);
+        acceptor = fold follow log.old.replica.acceptor (entry_in (read_entry body.now));
         memory = log.old.replica.memory;
       };
     }) }
@@ -32,7 +32,7 @@ fn recover_body(log: &mut LeaseLog, body: &EntryBytes) -> Result<(), NoMemory>
 }
 
 /// The log that these bodies leave.
-#[tactic(auto, unfolding(paxos_spec::specs::Acceptor::state_of), using(crate::proofs::PeerLaws::body_next))]
+#[tactic(auto, unfolding(paxos_spec::specs::Acceptor::state_of, node_spec::specs::Bodies::entries_of))]
 fn recovered(alloc: Global, rules: LeaseRules, bodies: &[EntryBytes]) -> Result<LeaseLog, NoMemory>
     ensures { IfOk result (λ log. log ≡ record {
       rules = rules;

@@ -1,6 +1,6 @@
-use Rattle.std.proofs.Common.{◌≡◌, true, drop, fold}
+use Rattle.std.proofs.Common.{◌≡◌, true, take}
 use Rattle.node_spec.specs.Bodies.{entries_of}
-use Rattle.paxos_spec.specs.Acceptor.{new_acceptor, follow}
+use Rattle.paxos_spec.specs.Acceptor.{state_of}
 use Rattle.paxos_spec.specs.Replica.{new_memory}
 use Rattle.manager_core.proofs.opening.recovered.Given as goal
 
@@ -9,6 +9,5 @@ invariant-loop-body l = record {
   rules : l.log.rules ≡ l.fn.rules;
   sound : l.log.sound ≡ true;
   memory : l.log.replica.memory ≡ new_memory;
-  acceptor : fold follow l.log.replica.acceptor (entries_of (drop l.body-index l.bodies))
-      ≡ fold follow new_acceptor (entries_of l.bodies);
+  acceptor : l.log.replica.acceptor ≡ state_of (entries_of (take l.body-index l.bodies));
 }
