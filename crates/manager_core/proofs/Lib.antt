@@ -4,3 +4,6 @@ pub mod TurnLaws
 pub mod Rooms
 pub mod RowLaws
 pub mod PeerLaws
+pub mod DueLaws
+pub mod ZeroLaws
+pub mod WalkLaws

@@ -1,4 +1,4 @@
-ghost use Rattle.std.specs.Prelude.{◌≡◌, ◌++◌, ◌∷◌, [], length, nat_le, OnOk};
+ghost use Rattle.std.specs.Prelude.{◌≡◌, ◌-◌, ◌++◌, ◌∷◌, [], drop, length, map, nat_le, take, OnOk};
 ghost use Rattle.std.specs.List.{list_any};
 ghost use Rattle.manager_core.specs.Seen.{command_of};
 ghost use Rattle.manager_spec.specs.Agents.{same_request};
@@ -7,7 +7,7 @@ ghost use Rattle.wire_core.specs.Views.{IsWritable, command_of as meant};
 use std::alloc::Global;
 use std::collections::VecDeque;
 use std::marker::Model;
-use wire_core::{Command, Ip4, NoMemory, Value};
+use wire_core::{Command, Ip4, NoMemory, Value, ValueBuilder};
 
 /// The most requests that wait.
 const MOST_QUEUED: usize = 4096;
@@ -112,6 +112,23 @@ fn is_among(queue: &VecDeque<Request>, request: &Request) -> bool
     queue.iter().any(|queued| is_same_request(request, queued))
 }
 
+/// The first of the requests leave the queue, and fill up the value to 16 commands.
+#[tactic(auto, using(crate::proofs::DueLaws::filled_next, crate::proofs::DueLaws::dropped_next, crate::proofs::DueLaws::full_filled, crate::proofs::DueLaws::full_dropped))]
+fn fill(requests: &mut VecDeque<Request>, value: &mut ValueBuilder) -> Result<(), NoMemory>
+    ensures value { OnOk result (value.new
+        ≡ value.old ++ take (16 - length value.old) (map command_of requests.old.items)) }
+    ensures left { OnOk result (map command_of requests.new.items
+        ≡ drop (16 - length value.old) (map command_of requests.old.items)) }
+{
+    while value.len() < 16 {
+        let Some(request) = requests.pop_front() else {
+            return Ok(());
+        };
+        value.push(&request.as_command())?;
+    }
+    Ok(())
+}
+
 /// The requests of agents that wait to be proposed, in the order in which they came.
 #[derive(Drop)]
 pub struct Queue {
@@ -161,6 +178,14 @@ impl Queue {
     {
         self.requests.push_back(request)?;
         Ok(())
+    }
+
+    /// The first of them leave, and fill up the value to 16 commands.
+    pub fn fill(&mut self, value: &mut ValueBuilder) -> Result<(), NoMemory>
+        ensures value { OnOk result (value.new ≡ value.old ++ take (16 - length value.old) self.old) }
+        ensures left { OnOk result (self.new ≡ drop (16 - length value.old) self.old) }
+    {
+        fill(&mut self.requests, value)
     }
 
     /// None waits any more.
