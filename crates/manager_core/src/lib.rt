@@ -12,8 +12,8 @@
 //! | MuxHello, MuxRefuse, Programmed, Unprogrammed | what muxes say | `muxes` |
 //!
 //! A row that ends with the proposal leaves it to its caller: `half` is a row before its proposal, `proposal` what is
-//! due and proposed, `orders` what is told at once of what was learned. A row of the agreement is one step of `paxos_replica`, asked for first and
-//! taken by `Manager::take`; `saying` spells it.
+//! due and proposed, `orders` what is told at once of what was learned. A row of the agreement is one step of
+//! `paxos_replica`, asked for first and taken by `Manager::take`; `saying` spells it.
 //!
 //! `log` ties the replica and the lease table of its log in one type, so that nobody above sees that they are two.
 //! A call that finds no memory between them leaves it unsound, and it isn't used again.
