@@ -1,6 +1,6 @@
 ghost use Rattle.std.specs.Prelude.{◌≡◌, ◌+◌, ◌≤◌, [], ◌∷◌, ◌++◌, OnOk, OnErr, IsOk, length, vec_len, vec_capacity};
 ghost use Rattle.wire_core.specs.Commands.{value_bytes};
-ghost use Rattle.wire_core.specs.Entries.{boot_at, entry_at, entry_bytes, read_entry};
+ghost use Rattle.wire_core.specs.Entries.{IsEntry, boot_at, entry_at, entry_bytes, read_entry};
 ghost use Rattle.wire_core.specs.Numbers.{number_bytes};
 ghost use Rattle.wire_core.specs.Reading.{Gives};
 
@@ -136,6 +136,32 @@ impl<'a> Entry<'a> {
                 } else {
                     Err(ValueFault::Field(bytes.len().saturating_sub(rest.len())))
                 }
+            }
+        }
+    }
+
+    /// Every entry has allowed fields, each within its width. It does nothing else than to say so.
+    pub fn keeps_rules(&self)
+        ensures { IsEntry self.now }
+    {
+        match self {
+            Entry::Boot {
+                version,
+                role,
+                index,
+                boot,
+            } => {
+                let _ = (*version, *role, *index, *boot);
+            }
+            Entry::Promise { ballot } => {
+                let _ballot = *ballot;
+            }
+            Entry::Vote { ballot, value } | Entry::Learn { ballot, value } => {
+                let _ballot = *ballot;
+                value.keeps_rules();
+            }
+            Entry::Epoch { epoch } => {
+                let _epoch = *epoch;
             }
         }
     }

@@ -1,5 +1,5 @@
 ghost use Rattle.std.specs.Prelude.{◌≡◌, ◌<◌, ◌≤◌, [], length, slice_get, Ok, Some, IsOk};
-ghost use Rattle.wire_core.specs.Commands.{Freed, Release, value_bytes};
+ghost use Rattle.wire_core.specs.Commands.{Freed, IsValue, Release, value_bytes};
 ghost use Rattle.wire_core.specs.Reading.{Gives, command_at, commands_at, commands_in, commands_of, fault_at, granted_at, lease_at, mux_boot_at, mux_boots_at, read_value, reserve_at, rest_of, up_at, value_at};
 ghost use Rattle.wire_core.specs.Views.{command_of, pairs_of};
 
@@ -210,6 +210,14 @@ fn spelling(bytes: &[u8]) -> &[u8]
     bytes
 }
 
+/// The bytes of a value spell allowed commands.
+fn keeps_rules(bytes: &[u8])
+    requires { value_at bytes.now ≡ Ok (commands_in bytes.now, []) }
+    ensures { IsValue (commands_in bytes.now) }
+{
+    let _ = bytes;
+}
+
 impl FieldFault {
     /// The fault by its offset among so many bytes.
     pub fn at(self, total: usize) -> ValueFault
@@ -262,6 +270,13 @@ impl<'a> Value<'a> {
     {
         let (count, rest) = split_count(self.bytes);
         command_from(rest, count, i)
+    }
+
+    /// Every value has 1 to 16 commands, each with allowed fields. It does nothing else than to say so.
+    pub fn keeps_rules(&self)
+        ensures { IsValue self.now }
+    {
+        keeps_rules(self.bytes);
     }
 
     /// The value's one spelling.
