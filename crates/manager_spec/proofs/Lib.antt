@@ -5,5 +5,6 @@ pub mod Own
 pub mod AgreedRows
 pub mod LeasedRows
 pub mod Leaves
+pub mod Written
 pub mod Refusals
 pub mod Resting

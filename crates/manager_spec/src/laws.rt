@@ -1,4 +1,4 @@
-ghost use Rattle.std.specs.Prelude.{ℕ, List, ◌≡◌, []};
+ghost use Rattle.std.specs.Prelude.{ℕ, List, ◌≡◌, [], IfSome};
 ghost use Rattle.control_msg.specs.declared.message.Message.{Message};
 ghost use Rattle.manager_spec.specs.Agreement.{IsStep, message_step, proposal_step, tick_step};
 ghost use Rattle.manager_spec.specs.Clock.{on_tick};
@@ -8,8 +8,12 @@ ghost use Rattle.manager_spec.specs.Manager.{Manager, opened_manager};
 ghost use Rattle.manager_spec.specs.ManagerTable.{from_agent, from_mux, from_replica};
 ghost use Rattle.manager_spec.specs.ManagerTable.{manager_half, manager_hears, manager_step};
 ghost use Rattle.manager_spec.specs.Proposal.{propose};
+ghost use Rattle.node_spec.specs.Arriving.{IsInBytes};
 ghost use Rattle.node_spec.specs.Turns.{Arrived, Input};
+ghost use Rattle.paxos_spec.specs.Leader.{value_out};
 ghost use Rattle.vip_config.specs.declared.parts.ConfigParts.{ConfigParts};
+ghost use Rattle.wire_core.specs.Commands.{IsValue};
+ghost use Rattle.wire_core.specs.Entries.{IsEntry};
 ghost use Rattle.wire_core.specs.declared.address.Socket.{Socket};
 ghost use Rattle.wire_core.specs.declared.entry.Entry.{Entry};
 ghost use Rattle.wire_core.specs.declared.node.NodeId.{NodeId};
@@ -50,4 +54,10 @@ pub fn followers_rest()
     ensures opened { (cfg : ConfigParts) (index : ℕ) (entries : List Entry) → Rests (opened_manager cfg index entries) }
     ensures turn { (cfg : ConfigParts) (r : Manager) (input : Input) → Rests r
         → Rests (manager_step cfg r input).state }
+{}
+
+/// An entry has allowed fields, where what arrives is bytes and what is outstanding is a value.
+pub fn entries()
+    ensures { (cfg : ConfigParts) (r : Manager) (x : Input) → IsInBytes x
+        → IfSome (value_out r.memory.leader.out) IsValue → IfSome (manager_step cfg r x).entry IsEntry }
 {}

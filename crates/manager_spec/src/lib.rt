@@ -27,6 +27,6 @@ mod laws;
 mod marks;
 mod peer;
 
-pub use laws::{drops, followers_rest, footprints, steps};
+pub use laws::{drops, entries, followers_rest, footprints, steps};
 pub use marks::Marks;
 pub use peer::Peer;

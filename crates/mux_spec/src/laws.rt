@@ -1,13 +1,15 @@
-ghost use Rattle.std.specs.Prelude.{ℕ, List};
+ghost use Rattle.std.specs.Prelude.{ℕ, List, IfSome};
 ghost use Rattle.control_msg.specs.declared.message.Message.{Message};
 ghost use Rattle.mux_spec.specs.Footprints.{AnswersBy, CommandDrops, DropsOrNot, LeavesAll, LeavesAllButFlows};
 ghost use Rattle.mux_spec.specs.Footprints.{LeavesFlows, LeavesGateAndRows, Rises};
 ghost use Rattle.mux_spec.specs.Mux.{Mux, on_tick};
 ghost use Rattle.mux_spec.specs.MuxTable.{from_mux, from_replica, mux_step};
 ghost use Rattle.mux_spec.specs.Packets.{on_packet};
+ghost use Rattle.node_spec.specs.Arriving.{IsInBytes};
 ghost use Rattle.node_spec.specs.Turns.{Input};
 ghost use Rattle.vip_config.specs.declared.parts.ConfigParts.{ConfigParts};
 ghost use Rattle.vip_config.specs.declared.who.Who.{Who};
+ghost use Rattle.wire_core.specs.Entries.{IsEntry};
 ghost use Rattle.wire_core.specs.declared.node.NodeId.TheVariants.{Replica};
 
 /// What each row leaves as it was.
@@ -38,4 +40,9 @@ pub fn answers()
 /// Whatever comes: the boot stays; epoch, time and kept numbers never fall.
 pub fn rises()
     ensures { (c : ConfigParts) (m : Mux) (x : Input) → Rises m (mux_step c m x) }
+{}
+
+/// An entry has allowed fields, where what arrives is bytes.
+pub fn entries()
+    ensures { (c : ConfigParts) (m : Mux) (x : Input) → IsInBytes x → IfSome (mux_step c m x).entry IsEntry }
 {}

@@ -1,5 +1,5 @@
 -- What a journal has of a node: its entries, each in bytes.
-use Rattle.std.specs.Prelude.{◌≡◌, ℕ, List, [], ◌∷◌, Result, Ok, Err}
+use Rattle.std.specs.Prelude.{◌≡◌, ℕ, List, [], ◌∷◌, Result, Ok, Err, Option, IfSome, option_map}
 use Rattle.std.specs.List.{flat_map}
 use Rattle.wire_core.specs.Entries.{IsEntry, entry_bytes, read_entry}
 use Rattle.wire_core.specs.declared.entry.Entry.{Entry}
@@ -19,3 +19,8 @@ pub record IsSpelled (bytes : List ℕ) : Type 0 where
   pub entry : Entry
   pub allowed : IsEntry entry
   pub spelled : bytes ≡ entry_bytes entry
+
+-- The bytes spell this entry, and its fields are allowed, where there is one.
+pub record Spells (bytes : Option (List ℕ)) (entry : Option Entry) : Type 0 where
+  pub allowed : IfSome entry IsEntry
+  pub spelled : bytes ≡ option_map entry_bytes entry

@@ -1,10 +1,13 @@
-// What a journal's bodies tell of a node's boot.
+// What a journal's bodies tell of a node's boot, and that a datagram is bytes.
 ghost use Rattle.std.specs.Prelude.{◌≡◌, fold};
+ghost use Rattle.node_spec.specs.Arriving.{IsInBytes};
 ghost use Rattle.node_spec.specs.Bodies.{entries_of, entry_in};
 ghost use Rattle.node_spec.specs.Boots.{boot_after, boot_of};
+ghost use Rattle.node_spec.specs.Steps.{input_of};
 ghost use Rattle.wire_core.specs.Entries.{read_entry};
+ghost use Rattle.wire_core.specs.Numbers.{AreBytes};
 
-use wire_core::{Entry, EntryBytes};
+use wire_core::{Entry, EntryBytes, Input};
 
 // The greater of a boot and of the one that the body tells, if it tells one.
 fn boot_after(boot: u64, body: &[u8]) -> u64
@@ -26,4 +29,21 @@ pub fn greatest_boot(bodies: &[EntryBytes]) -> u64
         boot = boot_after(boot, body.as_slice());
     }
     boot
+}
+
+// A slice of bytes is bytes.
+fn are_bytes(bytes: &[u8])
+    ensures { AreBytes bytes.now }
+{
+    let _ = bytes;
+}
+
+/// What arrives is bytes. It does nothing else than to say so.
+pub fn is_in_bytes(input: &Input<'_>)
+    ensures { IsInBytes (input_of input.now) }
+{
+    match *input {
+        Input::Datagram { bytes, .. } => are_bytes(bytes),
+        Input::Tick { .. } => {}
+    }
 }
