@@ -1,6 +1,6 @@
 -- What answers of replicas and the clock leave, and what they do to the leases.
-use Rattle.std.proofs.Common.{◌≡◌, refl, ap, sym, subst, ◌∙◌, ℕ, Bool, true, List, [], ◌∷◌, Option, Some, None}
-use Rattle.std.proofs.Common.{is_some, if◌then◌else◌, arith}
+use Rattle.std.proofs.Common.{◌≡◌, refl, ap, ◌∙◌, ℕ, true, List, [], ◌∷◌, Option, Some, None}
+use Rattle.std.proofs.Common.{is_some, if◌then◌else◌}
 use Rattle.std.specs.Prelude.{map, filter, length, nat_le, Result, Ok, Err, ◌==◌, ◌&&◌, ◌++◌}
 use Rattle.wire_core.specs.Steps.{first_of}
 use Rattle.control_msg.specs.declared.message.Message.{Message}
@@ -19,7 +19,6 @@ use Rattle.vip_config.specs.declared.who.Who.TheVariants as who
 use Rattle.vip_config.specs.Serving.{agent_with, has_snat}
 use Rattle.wire_core.specs.Members.{Each}
 use Rattle.wire_core.specs.Ranges.{is_leasable, range_at}
-use Rattle.wire_core.specs.declared.act.Act.{Act}
 use Rattle.wire_core.specs.declared.act.Act.TheVariants as act
 use Rattle.wire_core.specs.declared.cause.DropCause.{DropCause}
 use Rattle.wire_core.specs.declared.cause.DropCause.TheVariants as drop
@@ -34,7 +33,7 @@ use Rattle.agent_spec.specs.declared.held.Held.{Held}
 use Rattle.agent_spec.specs.declared.order.Redirection.{Redirection}
 use Rattle.agent_spec.specs.declared.held.Granting.{Granting}
 use Rattle.agent_spec.specs.declared.held.Granting.TheVariants as granting
-use Rattle.agent_spec.specs.Agent.{Agent, Host, Site, Traffic, host_of, of_site, opened_agent, put_host, site_at}
+use Rattle.agent_spec.specs.Agent.{Agent, Host, Site, Traffic, host_of, opened_agent, site_at}
 use Rattle.agent_spec.specs.Agent.{with_ranges}
 use Rattle.agent_spec.specs.Agent.{with_traffic}
 use Rattle.agent_spec.specs.AgentTable.{agent_hears, agent_step, agent_takes, from_mux, from_replica}
@@ -44,10 +43,10 @@ use Rattle.agent_spec.specs.Footprints.{AnswerDrops, Denies, Holds as Takes, Lea
 use Rattle.agent_spec.specs.Clock.{at_now, close_idle, forget_inbound, give_back, give_back_spare, idle_leave, is_spare}
 use Rattle.agent_spec.specs.Clock.{on_tick, renewed, says_again}
 use Rattle.agent_spec.specs.Connections.{is_idle}
-use Rattle.agent_spec.specs.Footprints.{HeldApart, KeptRise, LeavesAllButPeers, LeavesKnown, SameLeases, machines_of}
+use Rattle.agent_spec.specs.Footprints.{HeldApart, KeptRise, LeavesAllButPeers, LeavesKnown, machines_of}
 use Rattle.agent_spec.specs.Footprints.{RedirectDrops, RedirectRefused, RedirectTaken}
-use Rattle.agent_spec.specs.Packets.{ask_for, from_machine, try_packet}
-use Rattle.agent_spec.specs.Ranges.{Ranges, granted, is_returning, returned}
+use Rattle.agent_spec.specs.Packets.{from_machine, try_packet}
+use Rattle.agent_spec.specs.Ranges.{Ranges, granted, is_returning}
 use Rattle.agent_spec.specs.Redirects.{if_accepted, number_of, on_redirect, redirect_to, redirected, with_redirect}
 use Rattle.agent_spec.specs.Traffic.{close_conn}
 use Rattle.agent_spec.specs.Wrapped.{on_wrapped}
@@ -104,7 +103,7 @@ left_passes boot hint s =
     })
     (record { leases = same_refl s.traffic.ranges; time = refl; entry = refl })
 
-take_passes : (c : ConfigParts) (boot hint : ℕ) (s : Site) (seq n : ℕ) → SitePasses s (take_grant c boot hint s seq n)
+pub take_passes : (c : ConfigParts) (boot hint : ℕ) (s : Site) (seq n : ℕ) → SitePasses s (take_grant c boot hint s seq n)
 unfolding take_grant
 take_passes c boot hint s seq n =
     let tried = each_passes c s.host.queue (begun s seq) in

@@ -35,11 +35,11 @@ found_passes p (y ∷ ys) x h = by (p y) refl h (found_passes p ys x)
 
 -- ---- lists
 
-each_snoc : {X : Type 0} (P : X → Type 0) (xs : List X) (x : X) → Each P xs → P x → Each P (xs ++ x ∷ [])
+pub each_snoc : {X : Type 0} (P : X → Type 0) (xs : List X) (x : X) → Each P xs → P x → Each P (xs ++ x ∷ [])
 each_snoc P [] x h p = (p, tt)
 each_snoc P (y ∷ ys) x h p = (h.0, each_snoc P ys x h.1 p)
 
-each_filter : {X : Type 0} (P : X → Type 0) (p : X → Bool) (xs : List X) → Each P xs → Each P (filter p xs)
+pub each_filter : {X : Type 0} (P : X → Type 0) (p : X → Bool) (xs : List X) → Each P xs → Each P (filter p xs)
 each_filter P p [] h = tt
 each_filter P p (x ∷ xs) h = by (p x) (each_filter P p xs h.1)
   where
@@ -56,7 +56,7 @@ module _ (key : Connection → FlowKey) where
   own_append (c ∷ cs) d h free =
       (each_snoc (λ x. same_key (key c) (key x) ≡ false) cs d h.0 free.0, own_append cs d h.1 free.1)
 
-  own_filter : (p : Connection → Bool) (cs : List Connection) → OwnKeys key cs → OwnKeys key (filter p cs)
+  pub own_filter : (p : Connection → Bool) (cs : List Connection) → OwnKeys key cs → OwnKeys key (filter p cs)
   own_filter p [] h = tt
   own_filter p (c ∷ cs) h = by (p c) (own_filter p cs h.1)
     where

@@ -2,7 +2,7 @@
 use Rattle.std.proofs.Common.{◌≡◌, refl, ap, sym, subst, ◌∙◌, inl, inr, ℕ, Bool, true, false, not, List, [], ◌∷◌}
 use Rattle.std.proofs.Common.{Option}
 use Rattle.std.proofs.Common.{Some, None, is_some, if◌then◌else◌, ◌⊎◌, arith}
-use Rattle.std.specs.Prelude.{map, find, length, nat_le, Result, Ok, Err, ◌==◌, cond}
+use Rattle.std.specs.Prelude.{map, length, nat_le, ◌≤◌, ◌++◌, Result, Ok, Err, ◌==◌, cond}
 use Rattle.std.proofs.lemmas.Bool.Decides.{nat_tests}
 use Rattle.config_text.specs.declared.vips.Member.{Member}
 use Rattle.ipip.specs.Wrapping.{Unwrapped, wrap_fault, unwrapped}
@@ -463,7 +463,7 @@ machine_may_drop c a machine bytes others =
 pub data Hands (t : Traffic) (u : Turn Traffic) : Type 0 where
   HandQuiet : u.notes ≡ [] → Hands t u
   HandAtOnce : (cause : DropCause) → u ≡ drop_turn t cause → Hands t u
-  HandLeft : (x : Connection)
+  HandLeft : (x : Connection) → most ≤ length (closed (private_key x) t.inbound)
       → u ≡ drop_turn (record t { inbound = closed (private_key x) t.inbound }) drop.TableFull → Hands t u
 
 pub record Delivers (t : Traffic) (u : Turn Traffic) : Type 0 where
@@ -494,11 +494,18 @@ enters_passes t p x =
     (record { leases = same_refl t.ranges; time = refl; entry = refl })
 
 enters_hands : (t : Traffic) (p : List ℕ) (x : Connection)
-    → ((enters t p x).notes ≡ []) ⊎ (enters t p x ≡ drop_turn t drop.TableFull)
+    → ((enters t p x).notes ≡ []) ⊎ ((most ≤ length t.inbound) × (enters t p x ≡ drop_turn t drop.TableFull))
 unfolding enters hand
-enters_hands t p x =
-    by_if (λ (u : Turn Traffic). (u.notes ≡ []) ⊎ (u ≡ drop_turn t drop.TableFull))
-    (nat_le most (length t.inbound)) (inr refl) (inl refl)
+enters_hands t p x = by (nat_le most (length t.inbound)) refl
+  where
+    by : (b : Bool) → nat_le most (length t.inbound) ≡ b
+        → ((if b then drop_turn t drop.TableFull
+        else hand (record t { inbound = t.inbound ++ x ∷ [] }) x p).notes ≡ [])
+        ⊎ ((most ≤ length t.inbound)
+        × ((if b then drop_turn t drop.TableFull
+        else hand (record t { inbound = t.inbound ++ x ∷ [] }) x p) ≡ drop_turn t drop.TableFull))
+    by true e = inr (grind (arith, nat_tests), refl)
+    by false e = inl refl
 
 meets_delivers : (t : Traffic) (sender : Who) (p : List ℕ) (made : Connection) (o : Option Connection)
     → Delivers t (enters_or_meets t sender p made o)
@@ -508,9 +515,10 @@ meets_delivers t sender p made None = record {
   hands = by (enters t p made) (enters_hands t p made);
 }
   where
-    by : (u : Turn Traffic) → (u.notes ≡ []) ⊎ (u ≡ drop_turn t drop.TableFull) → Hands t u
+    by : (u : Turn Traffic) → (u.notes ≡ []) ⊎ ((most ≤ length t.inbound) × (u ≡ drop_turn t drop.TableFull))
+        → Hands t u
     by u (inl notes) = HandQuiet notes
-    by u (inr is) = HandAtOnce drop.TableFull is
+    by u (inr (full, is)) = HandAtOnce drop.TableFull is
 meets_delivers t sender p made (Some x) =
     by_if (Delivers t) (same_ip x.machine made.machine)
     (record {
@@ -528,9 +536,10 @@ meets_delivers t sender p made (Some x) =
     entering : Passes left (enters left p made)
     entering = enters_passes left p made
 
-    by : (u : Turn Traffic) → (u.notes ≡ []) ⊎ (u ≡ drop_turn left drop.TableFull) → Hands t u
+    by : (u : Turn Traffic) → (u.notes ≡ []) ⊎ ((most ≤ length left.inbound) × (u ≡ drop_turn left drop.TableFull))
+        → Hands t u
     by u (inl notes) = HandQuiet notes
-    by u (inr is) = HandLeft x is
+    by u (inr (full, is)) = HandLeft x full is
 
 server_delivers : (t : Traffic) (sender : Who) (p : List ℕ) (made : Connection)
     → Delivers t (to_server t sender p made)
@@ -570,7 +579,7 @@ drop_wraps a cause = record {
 lift_hands : (a : Agent) (u : Turn Traffic) → Hands a.traffic u → WrappedDrops a (lifted (with_traffic a) u)
 lift_hands a u (HandQuiet notes) = Handed notes
 lift_hands a u (HandAtOnce cause is) = RefusedAtOnce cause (ap (lifted (with_traffic a)) is)
-lift_hands a u (HandLeft x is) = EntryLeft x (ap (lifted (with_traffic a)) is)
+lift_hands a u (HandLeft x full is) = EntryLeft x full (ap (lifted (with_traffic a)) is)
 
 lift_wraps : (a : Agent) (u : Turn Traffic) → Delivers a.traffic u → Wraps a (lifted (with_traffic a) u)
 lift_wraps a u k = record {

@@ -62,7 +62,7 @@ Keeps t u = KeysApart t.conns → KeysApart u.state.conns
 
 -- ---- the parts of which rows are made
 
-time_inner : (now : ℕ) (c : Connection) → private_key (at_time now c) ≡ private_key c
+pub time_inner : (now : ℕ) (c : Connection) → private_key (at_time now c) ≡ private_key c
 unfolding private_key
 time_inner now c = refl
 
@@ -70,10 +70,10 @@ time_outer : (now : ℕ) (c : Connection) → public_key (at_time now c) ≡ pub
 unfolding public_key
 time_outer now c = refl
 
-touched_keeps : (t : Traffic) (x : Connection) → KeysApart t.conns → KeysApart (touched t x).conns
+pub touched_keeps : (t : Traffic) (x : Connection) → KeysApart t.conns → KeysApart (touched t x).conns
 touched_keeps t x h = apart_changed x (at_time t.time) (time_inner t.time) (time_outer t.time) t.conns h
 
-close_keeps : (x : Connection) (t : Traffic) → Keeps t (close_conn x t)
+pub close_keeps : (x : Connection) (t : Traffic) → Keeps t (close_conn x t)
 unfolding close_conn
 close_keeps x t h = apart_filter (λ c. not (has_private (private_key x) c)) t.conns h
 
@@ -128,10 +128,23 @@ not_used cs key vip ports chosen found =
     none_by None h = refl
     none_by (Some x) h = absurd (cc)
 
-open_keeps : (t : Traffic) (x : Connection) → IsFree private_key (private_key x) t.conns
+pub open_keeps : (t : Traffic) (x : Connection) → IsFree private_key (private_key x) t.conns
     → IsFree public_key (public_key x) t.conns → Keeps t (open_conn t x)
 unfolding open_conn
 open_keeps t x inner outer h = apart_append t.conns x h inner outer
+
+-- the port that was chosen gives a connection of which both keys are free
+pub open_is_free : (t : Traffic) (vip : Ip4) (p : List ℕ) → by_private (key_of p) t.conns ≡ None → (chosen : ℕ × ℕ)
+    → first_unused (is_used t.conns (key_of p) vip) (ports_of t.ranges.held (key_of p).src) ≡ Some chosen
+    → IsFree private_key (private_key (new_connection t.time (key_of p) vip chosen)) t.conns
+    × IsFree public_key (public_key (new_connection t.time (key_of p) vip chosen)) t.conns
+open_is_free t vip p none chosen e = (
+  subst (λ k. IsFree private_key k t.conns) (sym (new_inner t.time (key_of p) vip chosen))
+      (each_none (has_private (key_of p)) t.conns none),
+  subst (λ k. IsFree public_key k t.conns) (sym (new_outer t.time (key_of p) vip chosen))
+      (each_none (has_public (record (key_of p) { src = vip; sport = chosen.1 })) t.conns
+      (not_used t.conns (key_of p) vip (ports_of t.ranges.held (key_of p).src) chosen e)),
+)
 
 port_keeps : (c : ConfigParts) (t : Traffic) (vip : Ip4) (p : List ℕ) → by_private (key_of p) t.conns ≡ None
     → (o : Option (ℕ × ℕ)) → first_unused (is_used t.conns (key_of p) vip) (ports_of t.ranges.held (key_of p).src) ≡ o

@@ -1,5 +1,5 @@
 -- What each row leaves as it was, what a row that drops its input still does, and what only rises.
-use Rattle.std.specs.Prelude.{◌≡◌, ℕ, ◌≤◌, false, ◌==◌, List, [], ◌∷◌, map, None}
+use Rattle.std.specs.Prelude.{◌≡◌, ℕ, ◌≤◌, false, ◌==◌, List, [], ◌∷◌, map, length, None}
 use Rattle.wire_core.specs.Members.{Each}
 use Rattle.wire_core.specs.Same.{same_range}
 use Rattle.wire_core.specs.declared.act.Act.{Act}
@@ -15,8 +15,8 @@ use Rattle.ipip.specs.declared.wrapping.WrapFault.{WrapFault}
 use Rattle.node_spec.specs.Turns.{Turn, drop_turn}
 use Rattle.agent_spec.specs.declared.connection.Connection.{Connection}
 use Rattle.agent_spec.specs.declared.held.Held.{Held}
-use Rattle.agent_spec.specs.Agent.{Agent, Host, with_traffic}
-use Rattle.agent_spec.specs.Connections.{closed, private_key}
+use Rattle.agent_spec.specs.Agent.{Agent, Host, Traffic, with_traffic}
+use Rattle.agent_spec.specs.Connections.{closed, most, private_key}
 use Rattle.agent_spec.specs.Ranges.{Ranges, kept_at}
 use Rattle.agent_spec.specs.Traffic.{inbound_touched, touched}
 
@@ -102,11 +102,11 @@ pub data MachineDrops (a : Agent) (t : Turn Agent) : Type 0 where
       → t ≡ drop_turn (with_traffic a (inbound_touched a.traffic x)) (wrap_cause fault) → MachineDrops a t
 
 -- A wrapped packet is handed; or it is dropped, and then nothing else is done, but that another machine's entry left
--- before the list was found full.
+-- where as many are kept beside it as fit.
 pub data WrappedDrops (a : Agent) (t : Turn Agent) : Type 0 where
   Handed : t.notes ≡ [] → WrappedDrops a t
   RefusedAtOnce : (cause : DropCause) → t ≡ drop_turn a cause → WrappedDrops a t
-  EntryLeft : (x : Connection)
+  EntryLeft : (x : Connection) → most ≤ length (closed (private_key x) a.traffic.inbound)
       → t
       ≡ drop_turn (with_traffic a (record a.traffic { inbound = closed (private_key x) a.traffic.inbound }))
       drop.TableFull
@@ -124,6 +124,13 @@ pub data AnswerDrops (a : Agent) (t : Turn Agent) : Type 0 where
 pub data RedirectDrops (a : Agent) (t : Turn Agent) : Type 0 where
   RedirectRefused : (cause : DropCause) → t ≡ drop_turn a cause → RedirectDrops a t
   RedirectTaken : t.notes ≡ [] → RedirectDrops a t
+
+-- ---- how much is kept
+
+-- At most 65,536 connections are kept, and as many inbound entries.
+pub record Fits (t : Traffic) : Type 0 where
+  pub conns : length t.conns ≤ most
+  pub inbound : length t.inbound ≤ most
 
 -- ---- held ranges
 
