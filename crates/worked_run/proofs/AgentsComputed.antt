@@ -11,14 +11,19 @@ only_primary = record {
   ask = refl;
   gives_back = refl;
   up = refl;
+  other_machine = refl;
+  zero = refl;
 }
 
 pub asks : Asks
 unfolding node_on_literals manager_on_literals below_on_literals
 asks = record {
+  of_other = refl;
+  later_of_other = refl;
   other_agent = refl;
   other_machine = refl;
   no_vip = refl;
+  other_in_earlier = refl;
   earlier_boot = refl;
   earlier = refl;
   later = refl;
@@ -31,10 +36,14 @@ asks_again = record {
   outstanding = refl;
   being_leased = refl;
   leased = refl;
+  leased_in_2 = refl;
   freeing = refl;
   gone = refl;
   exhausted = refl;
   at_limit = refl;
+  third = refl;
+  other_told = refl;
+  other_denied = refl;
 }
 
 pub queues : Queues
@@ -42,12 +51,15 @@ unfolding node_on_literals manager_on_literals below_on_literals
 queues = record {
   outstanding = refl;
   waits = refl;
+  behind = refl;
   again = refl;
   full = refl;
   full_again = refl;
   other_agent = refl;
   other_boot = refl;
   other_ask = refl;
+  other_machine = refl;
+  other_asker = refl;
   not_full = refl;
 }
 
@@ -57,6 +69,8 @@ denies = record {
   asked = refl;
   exhausted = refl;
   at_limit = refl;
+  third = refl;
+  other_told = refl;
 }
 
 pub returns : Returns
@@ -66,11 +80,14 @@ returns = record {
   beyond = refl;
   no_row = refl;
   other_agent = refl;
+  other_told = refl;
+  other_learned = refl;
   other_boot = refl;
   ended = refl;
   taken = refl;
   again = refl;
   learned = refl;
+  learned_in_2 = refl;
   other_waits = refl;
 }
 
@@ -79,6 +96,9 @@ unfolding node_on_literals manager_on_literals below_on_literals
 ups = record {
   earlier = refl;
   known = refl;
+  other_told = refl;
+  other_later = refl;
+  other_learned = refl;
   later = refl;
   again = refl;
   learned = refl;

@@ -44,6 +44,7 @@ direct_cleared = record {
   told = refl;
   segment = refl;
   syn_of_agent = refl;
+  syn_ack = refl;
   syn = refl;
   answer = refl;
 }

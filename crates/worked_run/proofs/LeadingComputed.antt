@@ -11,6 +11,8 @@ silence = record {
   early = refl;
   candidate_waits = refl;
   candidate_again = refl;
+  forgets = refl;
+  forgets_all = refl;
   never_back = refl;
   promised = refl;
   promised_again = refl;
@@ -29,6 +31,9 @@ prepares = record {
   again = refl;
   above = refl;
   follows = refl;
+  voted = refl;
+  learned = refl;
+  acknowledged_ends = refl;
   queued = refl;
   queue_ends = refl;
   outstanding_ends = refl;
@@ -69,6 +74,7 @@ refuses = record {
   not_above = refl;
   other_ballot = refl;
   follower = refl;
+  stepped_down = refl;
 }
 
 pub leads : Leads
@@ -77,6 +83,8 @@ leads = record {
   below = refl;
   below_unheard = refl;
   lags = refl;
+  lags_on = refl;
+  lag_ends = refl;
   same = refl;
   stage = refl;
   candidate = refl;

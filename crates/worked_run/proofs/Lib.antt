@@ -11,6 +11,8 @@ pub mod PacketsComputed
 pub mod AgentRunComputed
 pub mod LeasesComputed
 pub mod MachinesComputed
+pub mod RangesComputed
+pub mod UsesComputed
 pub mod MuxLimitsComputed
 pub mod AgentLimitsComputed
 pub mod DirectComputed

@@ -13,6 +13,8 @@ hellos = record {
   same = refl;
   above = refl;
   above_follows = refl;
+  queue_ends = refl;
+  unheard = refl;
   at_most = refl;
   follower = refl;
   refusal = refl;
@@ -21,6 +23,8 @@ hellos = record {
   refusal_above = refl;
   greatest = refl;
   refusal_keeps_boot = refl;
+  refusal_raises_boot = refl;
+  refusal_hears = refl;
   refusal_of_boot = refl;
 }
 
@@ -28,10 +32,12 @@ pub acknowledges : Acknowledges
 unfolding node_on_literals manager_on_literals below_on_literals
 acknowledges = record {
   follower = refl;
+  stepped_down = refl;
   other_epoch = refl;
   no_row = refl;
   earlier = refl;
   later = refl;
+  of_other_mux = refl;
   later_known = refl;
 }
 
@@ -40,6 +46,7 @@ unfolding node_on_literals manager_on_literals below_on_literals
 grants_due = record {
   one_of_two = refl;
   both = refl;
+  each_row = refl;
   not_yet_silent = refl;
   silent = refl;
   silent_named = refl;
@@ -59,8 +66,11 @@ freed_due = record {
   one_of_two = refl;
   both = refl;
   any_boot = refl;
+  later_boot = refl;
+  leased = refl;
   learned = refl;
   forgotten = refl;
+  others_stay = refl;
   programmed_is_none = refl;
 }
 
@@ -68,6 +78,7 @@ pub pushes : Pushes
 unfolding node_on_literals manager_on_literals below_on_literals
 pushes = record {
   outstanding = refl;
+  last = refl;
   program = refl;
   silent = refl;
   acknowledged = refl;
@@ -89,6 +100,9 @@ proposes = record {
   queue = refl;
   some = refl;
   left = refl;
+  most_due = refl;
+  filled = refl;
+  filled_left = refl;
   after_refusal = refl;
 }
 
@@ -96,6 +110,10 @@ pub orders : Orders
 unfolding node_on_literals manager_on_literals below_on_literals
 orders = record {
   silent = refl;
+  unheard = refl;
+  both = refl;
+  cleared = refl;
+  unconfigured = refl;
   ended = refl;
   next = refl;
 }

@@ -12,14 +12,14 @@ use Rattle.node_spec.specs.Steps.{step_of}
 use Rattle.agent_spec.specs.declared.order.Redirection.{Redirection}
 use Rattle.agent_spec.specs.Agent.{Agent}
 use Rattle.agent_spec.specs.Redirects.{on_redirect}
-use Rattle.worked_run.specs.Configs.{run_config, two_each, ip, leasing, vip, machine, machine_at, other_machine}
+use Rattle.worked_run.specs.Configs.{two_each, ip, leasing, vip, machine, machine_at, other_machine}
 use Rattle.worked_run.specs.Configs.{other_machine_at}
-use Rattle.worked_run.specs.Configs.{mux_at, other_mux_at, agent_at, other_agent_at, replica_at, router_at}
+use Rattle.worked_run.specs.Configs.{mux_at, other_mux_at, other_agent_at, replica_at, router_at}
 use Rattle.worked_run.specs.Run.{grant, hello, packet_left, packet_out, reply_wrapped}
 use Rattle.worked_run.specs.Orders.{redirect_opener}
 use Rattle.worked_run.specs.Leasing as asks
 use Rattle.worked_run.specs.Delivering as packets
-use Rattle.worked_run.specs.AgentRun.{agent_hears, agent_ticks, connection, opened_first}
+use Rattle.worked_run.specs.AgentRun.{agent_hears, agent_ticks, connection, opened_first, shared}
 use Rattle.worked_run.specs.Steps.{sent, sends, does, dropped}
 
 -- tcp 80 of the VIP is served by the first machine at its port 8080; the second machine leaves from no VIP
@@ -89,16 +89,6 @@ pub record Undelivered : Type 0 where
   pub inner : step (gets one_open packets.inner_bad_sum) ≡ dropped cause.BadSum
   pub nobody : step (gets one_open packets.reply_elsewhere) ≡ dropped cause.NoConnection
   pub not_open : step (gets with_range reply_wrapped) ≡ dropped cause.NoConnection
-
--- the agent has both machines
-abbrev pub shared : ConfigParts
-shared = record run_config {
-  agents = record {
-    socket = agent_at;
-    machines = record { address = machine; attach = machine_at }
-        ∷ record { address = other_machine; attach = other_machine_at } ∷ [];
-  } ∷ [];
-}
 
 -- its first machine has a connection
 abbrev pub shared_open : Agent

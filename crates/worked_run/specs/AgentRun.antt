@@ -12,7 +12,8 @@ use Rattle.node_spec.specs.Turns.{Arrived, Ticked, Turn}
 use Rattle.node_spec.specs.Steps.{step_of}
 use Rattle.agent_spec.specs.Agent.{Agent, opened_agent}
 use Rattle.agent_spec.specs.AgentTable.{agent_step}
-use Rattle.worked_run.specs.Configs.{run_config, ip, vip, machine, machine_at, mux_at, replica_at, router_at}
+use Rattle.worked_run.specs.Configs.{run_config, agent, agent_at, attached, other_attached, ip, vip, machine}
+use Rattle.worked_run.specs.Configs.{machine_at, mux_at, replica_at, router_at}
 use Rattle.worked_run.specs.Run.{ask, grant, packet_left, packet_out, reply_handed, reply_wrapped}
 use Rattle.worked_run.specs.Steps.{sent, sends, does}
 
@@ -22,6 +23,10 @@ agent_hears c a from bytes = agent_step c a (Arrived from bytes)
 
 abbrev pub agent_ticks : ConfigParts → Agent → ℕ → Turn Agent
 agent_ticks c a now = agent_step c a (Ticked now)
+
+-- an agent has both machines, of which the second leaves from no VIP
+abbrev pub shared : ConfigParts
+shared = record run_config { agents = agent agent_at (attached ∷ other_attached ∷ []) ∷ [] }
 
 -- agent 0 as it opens in boot 1
 abbrev pub opened_first : ConfigParts → Agent

@@ -121,3 +121,48 @@ abbrev pub chosen_both : List ℕ
 chosen_both = hex
     (codes "010106000000000000000000000000000000050201000000000000000000010a01000400000000000000010300000000"
     ++ codes "00000001")
+
+-- the second request at slot 1
+abbrev pub accept_ask_2_at_1 : List ℕ
+accept_ask_2_at_1 = hex (codes "010103000000000000000500000000000000010101000000000000000000010a0100040000000000000002")
+
+-- lease 17 is asked for by the third request of boot 2, granted, given back, and it has ended
+abbrev pub ask_3_in_2 : List ℕ
+ask_3_in_2 = hex (codes "01010800000000000000020a0100040000000000000003")
+
+abbrev pub grant_17_in_2 : List ℕ
+grant_17_in_2 = hex (codes "01010900000000000000020a01000400000000000000030000000000000011c000020a0400")
+
+abbrev pub return_17_in_2 : List ℕ
+return_17_in_2 = hex (codes "01010b00000000000000020000000000000011")
+
+abbrev pub returned_17_in_2 : List ℕ
+returned_17_in_2 = hex (codes "01010c00000000000000020000000000000011")
+
+-- its Release, at slot 3
+abbrev pub chosen_release_17 : List ℕ
+chosen_release_17 = hex (codes "0101060000000000000003000000000000000501030000000000000011")
+
+abbrev pub learned_release_17 : List ℕ
+learned_release_17 = hex (codes "04000000000000000501030000000000000011")
+
+-- the third request of boot 1: denied, since the machine had 1 row
+abbrev pub ask_3 : List ℕ
+ask_3 = hex (codes "01010800000000000000010a0100040000000000000003")
+
+abbrev pub chosen_ask_3 : List ℕ
+chosen_ask_3 = hex (codes "010106000000000000000200000000000000050101000000000000000000010a0100040000000000000003")
+
+abbrev pub denied_third : List ℕ
+denied_third = hex (codes "01010a00000000000000010a0100040000000000000003020000000000000001")
+
+-- the other machine's second request: denied, since it had 1 row
+abbrev pub ask_other_2 : List ℕ
+ask_other_2 = hex (codes "01010800000000000000010a0100050000000000000002")
+
+abbrev pub denied_other : List ℕ
+denied_other = hex (codes "01010a00000000000000010a0100050000000000000002020000000000000001")
+
+-- the other agent's boot is 2, at slot 0
+abbrev pub chosen_up_other : List ℕ
+chosen_up_other = hex (codes "01010600000000000000000000000000000005010500010000000000000002")

@@ -35,6 +35,10 @@ promise_6_reserve = hex
 abbrev pub promise_6_up : List ℕ
 promise_6_up = hex (codes "010102000000000000000600000000000000000000000000000004010500000000000000000002")
 
+-- a promise of 6, of a log of length 1
+abbrev pub promise_6_long : List ℕ
+promise_6_long = hex (codes "010102000000000000000600000000000000010000000000000000")
+
 -- the Reserve at other ballots
 abbrev pub accept_4 : List ℕ
 accept_4 = hex (codes "010103000000000000000400000000000000000101000000000000000000010a0100040000000000000001")

@@ -80,3 +80,9 @@ abbrev pub syn_wrapped_by_agent : List ℕ
 syn_wrapped_by_agent = hex
     (codes "024500004000004000400426b00a0100040a0100054500002c000000004006f6adc000020ac000021404000050000000"
     ++ codes "000000000060022000efcb0000020405a0")
+
+-- a SYN of the opener with an ACK, wrapped by mux 0
+abbrev pub syn_ack_wrapped : List ℕ
+syn_ack_wrapped = hex
+    (codes "024500003c00004000400426af0a0900010a01000545000028000000003f06f7b1c000020ac000021404000050000000"
+    ++ codes "00000000015012200007630000")

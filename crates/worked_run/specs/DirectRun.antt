@@ -176,12 +176,13 @@ entry peer = record {
 abbrev pub entries_after : Socket → List ℕ → List Connection
 entries_after from bytes = (agent server_told.state from bytes).state.traffic.inbound
 
--- The peer stays with each segment, and with a SYN that comes from an agent; a SYN through a mux clears it, and then
--- the answer leaves for the router. The number stays.
+-- The peer stays with each segment, with a SYN that comes from an agent, and with a SYN that has an ACK; a SYN alone
+-- through a mux clears it, and then the answer leaves for the router. The number stays.
 pub record DirectCleared : Type 0 where
   pub told : server_told.state.traffic.inbound ≡ entry (Some machine) ∷ []
   pub segment : entries_after mux_at segments.data_wrapped ≡ entry (Some machine) ∷ []
   pub syn_of_agent : entries_after agent_at segments.syn_wrapped_by_agent ≡ entry (Some machine) ∷ []
+  pub syn_ack : entries_after mux_at segments.syn_ack_wrapped ≡ entry (Some machine) ∷ []
   pub syn : entries_after mux_at segments.syn_wrapped ≡ entry None ∷ []
   pub answer : step_of direct
       (agent (agent server_told.state mux_at segments.syn_wrapped).state other_machine_at segments.answer_out)

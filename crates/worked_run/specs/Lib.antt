@@ -24,6 +24,8 @@ pub mod Delivering
 pub mod AgentRun
 pub mod AgentLeases
 pub mod AgentPackets
+pub mod AgentRanges
+pub mod AgentUses
 pub mod Long
 pub mod MuxLimits
 pub mod AgentLimits

@@ -26,6 +26,10 @@ mux_refuse_12 = hex (codes "0101140000000000000005000000000000000100000000000000
 abbrev pub mux_refuse_0 : List ℕ
 mux_refuse_0 = hex (codes "010114000000000000000500000000000000010000000000000000")
 
+-- the same in boot 2
+abbrev pub mux_refuse_0_in_2 : List ℕ
+mux_refuse_0_in_2 = hex (codes "010114000000000000000500000000000000020000000000000000")
+
 -- row 1 is programmed in boot 2; at epoch 4; row 2 is programmed
 abbrev pub programmed_2 : List ℕ
 programmed_2 = hex (codes "010111000000000000000500000000000000020000000000000001")
@@ -40,12 +44,20 @@ programmed_row_2 = hex (codes "0101110000000000000005000000000000000100000000000
 abbrev pub unprogrammed : List ℕ
 unprogrammed = hex (codes "010113000000000000000500000000000000010000000000000001")
 
+-- the same in boot 2
+abbrev pub unprogrammed_in_2 : List ℕ
+unprogrammed_in_2 = hex (codes "010113000000000000000500000000000000020000000000000001")
+
 -- row 1 goes to no machine, for a mux in boot 1 and in boot 2
 abbrev pub unprogram : List ℕ
 unprogram = hex (codes "010112000000000000000500000000000000010000000000000001c000020a0400")
 
 abbrev pub unprogram_2 : List ℕ
 unprogram_2 = hex (codes "010112000000000000000500000000000000020000000000000001c000020a0400")
+
+-- row 17 goes to no machine
+abbrev pub unprogram_17 : List ℕ
+unprogram_17 = hex (codes "010112000000000000000500000000000000010000000000000011c000020a0400")
 
 -- row 1 for a mux in boot 2
 abbrev pub program_2 : List ℕ

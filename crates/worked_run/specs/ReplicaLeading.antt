@@ -4,14 +4,16 @@ use Rattle.wire_core.specs.Steps.{no_step}
 use Rattle.wire_core.specs.declared.cause.DropCause.TheVariants.{Late}
 use Rattle.paxos_spec.specs.declared.stage.Stage.TheVariants.{Follower, Candidate, Primary}
 use Rattle.node_spec.specs.Turns.{Turn}
+use Rattle.manager_spec.specs.Known.{no_marks}
 use Rattle.manager_spec.specs.Manager.{Manager}
 use Rattle.worked_run.specs.Configs.{run_config, replica_at, mux_at, agent_at}
 use Rattle.worked_run.specs.Run as run
 use Rattle.worked_run.specs.Asks as asks
 use Rattle.worked_run.specs.Ballots as ballots
 use Rattle.worked_run.specs.Steps.{sent, all_five, to_each, sends, keeps, does, dropped}
-use Rattle.worked_run.specs.Primaries.{stage_of, reserve_act}
+use Rattle.worked_run.specs.Primaries.{stage_of, reserve_act, up}
 use Rattle.worked_run.specs.Replicas.{of, hears, ticks, opened, campaigns, hears_prepare, elected, hears_ask}
+use Rattle.worked_run.specs.Replicas.{hears_accept, hears_chosen, hears_programmed}
 use Rattle.worked_run.specs.Configs.{machine}
 
 -- what comes to a replica from replica i, and when it ticks, under the run's configuration
@@ -28,6 +30,8 @@ pub record Silence : Type 0 where
   pub candidate_waits : of (at_time 1999 campaigns.state) ≡ no_step
   pub candidate_again : of (at_time 2000 campaigns.state)
       ≡ keeps ballots.promised_10 (sends (to_each all_five ballots.prepare_10))
+  pub forgets : (at_time 2000 (record campaigns.state { queue = up 0 2 })).state.queue ≡ []
+  pub forgets_all : (at_time 2000 (record campaigns.state { acks = (1, no_marks) ∷ [] })).state.acks ≡ []
   pub never_back : (at_time 500 campaigns.state).state.time ≡ 1000
   pub promised : of (at_time 1899 (from 0 run.prepare (at_time 900 (opened 1)).state).state) ≡ no_step
   pub promised_again : (at_time 1900 (from 0 run.prepare
@@ -44,7 +48,8 @@ pub record Silence : Type 0 where
       ≡ Some run.promised
 
 -- Prepare: one below the promise is refused, the promise itself is promised again without an entry, one above it makes
--- a primary step down, with its queue and what was outstanding.
+-- a primary step down, with its queue, its acknowledgements and what was outstanding. A Promise tells the length of the
+-- log, and the vote.
 pub record Prepares : Type 0 where
   pub below : of (from 4 ballots.prepare_4 (hears_prepare 1).state)
       ≡ sends (sent (replica_at 4) ballots.refuse_4 ∷ [])
@@ -52,6 +57,11 @@ pub record Prepares : Type 0 where
   pub above : of (from 1 ballots.prepare_6 elected)
       ≡ keeps ballots.promised_6 (sends (sent (replica_at 1) ballots.promise_6 ∷ []))
   pub follows : stage_of (from 1 ballots.prepare_6 elected) ≡ Follower
+  pub voted : of (from 1 ballots.prepare_6 (hears_accept 2).state)
+      ≡ keeps ballots.promised_6 (sends (sent (replica_at 1) ballots.promise_6_reserve ∷ []))
+  pub learned : of (from 1 ballots.prepare_6 (hears_chosen 2).state)
+      ≡ keeps ballots.promised_6 (sends (sent (replica_at 1) ballots.promise_6_long ∷ []))
+  pub acknowledged_ends : (from 1 ballots.prepare_6 hears_programmed.state).state.acks ≡ []
   pub queued : of (hears run_config hears_ask.state agent_at asks.up_2) ≡ no_step
   pub queue_ends :
       (from 1 ballots.prepare_6 (hears run_config hears_ask.state agent_at asks.up_2).state).state.queue ≡ []
@@ -116,14 +126,21 @@ pub record Refuses : Type 0 where
   pub not_above : of (from 1 ballots.refuse_5 elected) ≡ dropped Late
   pub other_ballot : of (from 1 ballots.refuse_other elected) ≡ dropped Late
   pub follower : of (from 1 ballots.refuse_12 (opened 0)) ≡ dropped Late
+  pub stepped_down : of (from 1 ballots.refuse_12 (from 1 ballots.prepare_6 elected).state) ≡ dropped Late
 
--- Lead: below the promise it is refused, and no leader was heard. A longer log is fetched. It changes no stage.
+-- Lead: below the promise it is refused, and no leader was heard. A longer log is fetched to its end. The ballot of a
+-- Lead is seen, and it changes no stage.
 pub record Leads : Type 0 where
   pub below : of (from 4 ballots.lead_at_4 (hears_prepare 1).state)
       ≡ sends (sent (replica_at 4) ballots.refuse_4 ∷ [])
   pub below_unheard : (of (at_time 1000 (from 4 ballots.lead_at_4
       (at_time 900 (hears_prepare 1).state).state).state)).entry ≡ Some ballots.promised_11
   pub lags : of (from 0 ballots.lead_1 (opened 3)) ≡ sends (sent (replica_at 0) ballots.fetch_0 ∷ [])
+  pub lags_on : of (from 0 run.chosen_reserve (from 0 ballots.lead_2 (opened 3)).state)
+      ≡ keeps run.learned_reserve (does (reserve_act 1 1024 machine ∷ [])
+      (sends (sent (replica_at 0) ballots.fetch_1 ∷ [])))
+  pub lag_ends : (of (at_time 1900 (from 0 ballots.lead_1 (at_time 900 (opened 1)).state).state)).entry
+      ≡ Some ballots.promised_11
   pub same : of (from 0 ballots.lead_0 (opened 3)) ≡ no_step
   pub stage : stage_of (from 1 ballots.lead_at_6 elected) ≡ Primary
   pub candidate : stage_of (from 0 ballots.lead_0 campaigns.state) ≡ Candidate

@@ -2,7 +2,9 @@ ghost use Rattle.worked_run.specs.AgentLeases.{Answered, AsksAgain, Denies, Gran
 ghost use Rattle.worked_run.specs.AgentLimits.{LongPackets, TablesFull};
 ghost use Rattle.worked_run.specs.AgentPackets.{Endpoints, ForAnother, Ports, Redirects, Resets, Undelivered, Unsent};
 ghost use Rattle.worked_run.specs.AgentPackets.{Untaken};
+ghost use Rattle.worked_run.specs.AgentRanges.{AsksLater, EightPorts, InOrder, Opens, OwnMachines, StayHeld};
 ghost use Rattle.worked_run.specs.AgentRun.{AgentLines};
+ghost use Rattle.worked_run.specs.AgentUses.{Entries, FirstFault, Moves, Peers, Uses};
 
 /// Each step of the host agent in the run: the acts, the notes and the datagrams of its line.
 pub fn agent_run()
@@ -29,6 +31,25 @@ pub fn machines_rows()
     ensures endpoints { Endpoints }
     ensures redirects { Redirects }
     ensures untaken { Untaken }
+{}
+
+/// Which ranges and ports an agent uses, what stays held, what is asked of whom, and that machines have their own.
+pub fn ranges_rows()
+    ensures opens { Opens }
+    ensures in_order { InOrder }
+    ensures eight_ports { EightPorts }
+    ensures stay_held { StayHeld }
+    ensures asks_later { AsksLater }
+    ensures own_machines { OwnMachines }
+{}
+
+/// What is used and what ends: connections, inbound entries, peers.
+pub fn uses_rows()
+    ensures uses { Uses }
+    ensures entries { Entries }
+    ensures moves { Moves }
+    ensures first_fault { FirstFault }
+    ensures peers { Peers }
 {}
 
 /// What an agent does at its limits: lists that are full, and a packet that is too long to wrap.

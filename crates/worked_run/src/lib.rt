@@ -22,6 +22,8 @@
 //! | the host agent: its lines of the run | `AgentRun` |
 //! | the host agent: leases, asks and the clock | `AgentLeases` with `Leasing` |
 //! | the host agent: packets from machines and to them | `AgentPackets` with `Delivering` |
+//! | the host agent: several ranges, several machines | `AgentRanges` with `Leasing` |
+//! | the host agent: uses, entries, peers | `AgentUses` with `Delivering` |
 //! | the host agent: long packets, and full lists | `AgentLimits` with `Long` |
 //! | a connection that leaves the mux, by the tables as they will be | `DirectRun` with `Direct`, `DirectTables` |
 #![tactic(auto)]
@@ -31,7 +33,7 @@ mod direct;
 mod managers;
 mod muxes;
 
-pub use agents::{agent_limits, agent_run, leases_rows, machines_rows};
+pub use agents::{agent_limits, agent_run, leases_rows, machines_rows, ranges_rows, uses_rows};
 pub use direct::direct_run;
 pub use managers::{agents_rows, agreement_rows, managers_run, muxes_rows, untaken_rows};
 pub use muxes::{mux_limits, mux_run, orders_rows, packets_rows};
