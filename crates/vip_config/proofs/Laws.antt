@@ -9,7 +9,6 @@ use Rattle.std.proofs.lemmas.Bool.{eqb-true}
 use Rattle.std.proofs.lemmas.Bool.Decides.{nat_tests}
 use Rattle.wire_core.specs.Members.{In, Each}
 use Rattle.wire_core.specs.declared.address.Ip4.{Ip4}
-use Rattle.wire_core.specs.declared.address.Socket.{Socket}
 use Rattle.config_text.specs.declared.agents.AgentConf.{AgentConf}
 use Rattle.config_text.specs.declared.settings.Settings.{Settings}
 use Rattle.config_text.specs.declared.vips.VipText.{VipText}
@@ -25,8 +24,7 @@ use Rattle.vip_config.specs.Leases.{all_machine_rules, lease_rules_of, machine_r
 use Rattle.vip_config.specs.Machines.{agent_of, address_claims, agent_address_claims, is_machine, machine_claims}
 use Rattle.vip_config.specs.Machines.{machines_of}
 use Rattle.wire_core.specs.declared.flow.Proto.{Proto}
-use Rattle.wire_core.specs.declared.flow.Proto.TheVariants.{Tcp, Udp}
-use Rattle.wire_core.specs.Same.{same_ip, same_proto, same_socket}
+use Rattle.wire_core.specs.Same.{same_ip, same_socket}
 use Rattle.wire_core.proofs.SameLaws.{ip_itself, proto_itself, socket_itself}
 use Rattle.config_text.specs.declared.vips.Endpoint.{Endpoint}
 use Rattle.config_text.specs.declared.vips.Member.{Member}

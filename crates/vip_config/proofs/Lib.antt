@@ -8,3 +8,4 @@ pub mod Loops
 pub mod Named
 pub mod Owners
 pub mod Lookups
+pub mod Served

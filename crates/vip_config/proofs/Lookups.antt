@@ -1,12 +1,12 @@
--- What stands first beside an address is found at once.
-use Rattle.std.proofs.Common.{◌≡◌, ℕ, ◌+◌, ◌<◌, ◌==◌, Bool, true, false, ◌&&◌, ◌||◌, List, [], ◌∷◌, ◌++◌, map}
+-- What stands first beside a key is found at once.
+use Rattle.std.proofs.Common.{◌≡◌, ℕ, ◌+◌, ◌<◌, Bool, true, false, ◌&&◌, ◌||◌, List, [], ◌∷◌, ◌++◌, map}
 use Rattle.std.proofs.Common.{length, take, get_or, cond}
 use Rattle.std.proofs.Common.{find, Option, Some, None, is_some, option_map, refl, ap, sym, ◌∙◌, true≢false}
 use Rattle.std.specs.List.{flat_map, list_any}
 use Rattle.std.specs.Map.{lookup}
-use Rattle.indexmap.specs.IndexMap.{IndexMap, insert_entry}
+use Rattle.indexmap.specs.IndexMap.{insert_entry}
 use Rattle.std.specs.Option.{option_or}
-use Rattle.std.proofs.lemmas.Bool.{eqb-true}
+use Rattle.std.proofs.lemmas.List.{append_assoc}
 use Rattle.wire_core.specs.declared.address.Ip4.{Ip4}
 use Rattle.wire_core.specs.Members.{In}
 use Rattle.wire_core.specs.Same.{same_ip}
@@ -20,7 +20,7 @@ use Rattle.vip_config.proofs.Members.{in_left, in_right, once_apart, once_right}
 use Rattle.vip_config.proofs.Loops.{joined_more, mapped_more}
 use Rattle.vip_config.proofs.Walks.{insert_last}
 
-lookup_append : {V : Type 0} (t : Ip4 → Bool) (es fs : List (Ip4 × V))
+pub lookup_append : {K V : Type 0} (t : K → Bool) (es fs : List (K × V))
     → lookup t (es ++ fs) ≡ option_or (lookup t es) (lookup t fs)
 lookup_append t [] fs = refl
 lookup_append t (e ∷ es) fs = by (t e.0) refl (lookup_append t es fs)
@@ -34,47 +34,57 @@ some_first : {V : Type 0} (o p : Option V) → is_some o ≡ true → o ≡ opti
 some_first (Some x) p is = refl
 some_first None p is = absurd (true≢false (sym is))
 
-none_last : {V : Type 0} (o : Option V) → o ≡ option_or o None
+pub none_last : {V : Type 0} (o : Option V) → o ≡ option_or o None
 none_last (Some x) = refl
 none_last None = refl
 
-module _ {V : Type 0} where
-  -- an address that stands there already hides what comes later
-  pub hidden : (es : List (Ip4 × V)) (a : Ip4) (v : V) → is_some (lookup (same_ip a) es) ≡ true
-      → FindsAs es (es ++ (a, v) ∷ [])
-  hidden es a v there k = by (same_ip k a) refl ∙ sym (lookup_append (same_ip k) es ((a, v) ∷ []))
+module _ {K V : Type 0} (same : K → K → Bool) where
+  -- a key that stands there already hides what comes later
+  pub hidden : ((a b : K) → same a b ≡ true → a ≡ b) → (es : List (K × V)) (a : K) (v : V)
+      → is_some (lookup (same a) es) ≡ true → FindsAs same es (es ++ (a, v) ∷ [])
+  hidden is_same es a v there k = by (same k a) refl ∙ sym (lookup_append (same k) es ((a, v) ∷ []))
     where
-      by : (b : Bool) → same_ip k a ≡ b
-          → lookup (same_ip k) es ≡ option_or (lookup (same_ip k) es) (lookup (same_ip k) ((a, v) ∷ []))
+      by : (b : Bool) → same k a ≡ b
+          → lookup (same k) es ≡ option_or (lookup (same k) es) (lookup (same k) ((a, v) ∷ []))
       by true is =
-          some_first (lookup (same_ip k) es) _
-          (ap (λ x. is_some (lookup (same_ip x) es)) (ip_is k a is) ∙ there)
-      by false is = rw is (none_last (lookup (same_ip k) es))
+          some_first (lookup (same k) es) _
+          (ap (λ x. is_some (lookup (same x) es)) (is_same k a is) ∙ there)
+      by false is = rw is (none_last (lookup (same k) es))
 
-  pub added : (es new : List (Ip4 × V)) (a : Ip4) (v : V) → is_some (lookup (same_ip a) es) ≡ false
-      → new ≡ insert_entry same_ip es a v → FindsAs new (es ++ (a, v) ∷ [])
-  added es new a v none is k = ap (lookup (same_ip k)) (is ∙ insert_last same_ip es a v none)
+  pub added : (es new : List (K × V)) (a : K) (v : V) → is_some (lookup (same a) es) ≡ false
+      → new ≡ insert_entry same es a v → FindsAs same new (es ++ (a, v) ∷ [])
+  added es new a v none is k = ap (lookup (same k)) (is ∙ insert_last same es a v none)
 
   -- what is found so far, and what is added to it
-  pub finds_more : (was now ys zs all : List (Ip4 × V)) → FindsAs was ys → FindsAs now (was ++ zs) → ys ++ zs ≡ all
-      → FindsAs now all
+  pub finds_more : (was now ys zs all : List (K × V)) → FindsAs same was ys → FindsAs same now (was ++ zs)
+      → ys ++ zs ≡ all → FindsAs same now all
   finds_more was now ys zs all so_far step is k =
-      step k ∙ lookup_append (same_ip k) was zs
-      ∙ ap (λ o. option_or o (lookup (same_ip k) zs)) (so_far k)
-      ∙ sym (lookup_append (same_ip k) ys zs) ∙ ap (lookup (same_ip k)) is
+      step k ∙ lookup_append (same k) was zs
+      ∙ ap (λ o. option_or o (lookup (same k) zs)) (so_far k)
+      ∙ sym (lookup_append (same k) ys zs) ∙ ap (lookup (same k)) is
 
-module _ {A V : Type 0} (xs : List A) (i : ℕ) (d : A) (within : i < length xs) where
-  pub finds_mapped : (f : A → Ip4 × V) (front was now : List (Ip4 × V)) → FindsAs was (front ++ map f (take i xs))
-      → FindsAs now (was ++ f (get_or xs i d) ∷ []) → FindsAs now (front ++ map f (take (i + 1) xs))
+module _ {A K V : Type 0} (same : K → K → Bool) (xs : List A) (i : ℕ) (d : A) (within : i < length xs) where
+  pub finds_mapped : (f : A → K × V) (front was now : List (K × V)) → FindsAs same was (front ++ map f (take i xs))
+      → FindsAs same now (was ++ f (get_or xs i d) ∷ []) → FindsAs same now (front ++ map f (take (i + 1) xs))
   finds_mapped f front was now so_far step =
-      finds_more was now (front ++ map f (take i xs)) (f (get_or xs i d) ∷ []) (front ++ map f (take (i + 1) xs))
+      finds_more same was now (front ++ map f (take i xs)) (f (get_or xs i d) ∷ []) (front ++ map f (take (i + 1) xs))
       so_far step (mapped_more xs i d within f front (front ++ map f (take i xs)) _ refl refl)
 
-  pub finds_joined : (f : A → List (Ip4 × V)) (was now : List (Ip4 × V)) → FindsAs was (flat_map f (take i xs))
-      → FindsAs now (was ++ f (get_or xs i d)) → FindsAs now (flat_map f (take (i + 1) xs))
+  pub finds_joined : (f : A → List (K × V)) (was now : List (K × V)) → FindsAs same was (flat_map f (take i xs))
+      → FindsAs same now (was ++ f (get_or xs i d)) → FindsAs same now (flat_map f (take (i + 1) xs))
   finds_joined f was now so_far step =
-      finds_more was now (flat_map f (take i xs)) (f (get_or xs i d)) (flat_map f (take (i + 1) xs))
+      finds_more same was now (flat_map f (take i xs)) (f (get_or xs i d)) (flat_map f (take (i + 1) xs))
       so_far step (joined_more xs i d within f (flat_map f (take i xs)) _ refl refl)
+
+  -- the same, behind what was there before
+  pub finds_behind : (f : A → List (K × V)) (front was now : List (K × V))
+      → FindsAs same was (front ++ flat_map f (take i xs)) → FindsAs same now (was ++ f (get_or xs i d))
+      → FindsAs same now (front ++ flat_map f (take (i + 1) xs))
+  finds_behind f front was now so_far step =
+      finds_more same was now (front ++ flat_map f (take i xs)) (f (get_or xs i d))
+      (front ++ flat_map f (take (i + 1) xs)) so_far step
+      (append_assoc front (flat_map f (take i xs)) (f (get_or xs i d))
+      ∙ ap (λ l. front ++ l) (joined_more xs i d within f (flat_map f (take i xs)) _ refl refl))
 
 -- ---- leaving
 

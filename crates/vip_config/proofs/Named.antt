@@ -1,11 +1,10 @@
 -- Whoever owns a socket is configured, and a node owns its own socket alone.
 use Rattle.std.proofs.Common.{◌≡◌, inl, inr, ◌⊎◌, ℕ, zero, suc, ◌+◌, ◌<◌, Bool, true, false, List, [], ◌∷◌, ◌++◌, map}
-use Rattle.std.proofs.Common.{length, slice_get, Option, Some, None, option_map, unwrap_or, refl, ap, sym, ◌∙◌, subst}
+use Rattle.std.proofs.Common.{length, slice_get, Option, Some, None, option_map, unwrap_or, refl, ap, sym, subst}
 use Rattle.std.proofs.Common.{arith}
 use Rattle.std.specs.Map.{lookup}
 use Rattle.std.proofs.lemmas.List.{map-append}
 use Rattle.wire_core.specs.Members.{In}
-use Rattle.wire_core.specs.declared.address.Ip4.{Ip4}
 use Rattle.wire_core.specs.declared.address.Socket.{Socket}
 use Rattle.wire_core.specs.declared.node.NodeId.{NodeId}
 use Rattle.wire_core.specs.declared.node.NodeId.TheVariants.{Replica, Mux, Agent}

@@ -7,9 +7,7 @@ use Rattle.std.proofs.lemmas.Bool.{eqb-true}
 use Rattle.std.proofs.lemmas.Bool.Decides.{nat_tests}
 use Rattle.wire_core.specs.Members.{In, Each}
 use Rattle.wire_core.specs.declared.address.Ip4.{Ip4}
-use Rattle.wire_core.specs.declared.address.Socket.{Socket}
 use Rattle.wire_core.specs.declared.flow.Proto.{Proto}
-use Rattle.wire_core.specs.declared.flow.Proto.TheVariants.{Tcp, Udp}
 use Rattle.wire_core.specs.Same.{same_ip, same_proto, same_socket}
 use Rattle.wire_core.proofs.SameLaws.{ip_is, ip_itself, proto_is, socket_is}
 use Rattle.config_text.specs.declared.settings.Settings.{Settings}

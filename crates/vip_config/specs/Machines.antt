@@ -1,5 +1,5 @@
 -- Whose each machine is.
-use Rattle.std.specs.Prelude.{ℕ, ◌==◌, Bool, true, List, [], ◌∷◌, Option, is_some}
+use Rattle.std.specs.Prelude.{ℕ, Bool, true, List, [], ◌∷◌, Option, is_some}
 use Rattle.std.specs.Map.{lookup}
 use Rattle.wire_core.specs.declared.address.Ip4.{Ip4}
 use Rattle.wire_core.specs.Same.{same_ip}

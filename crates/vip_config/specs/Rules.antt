@@ -3,18 +3,21 @@ use Rattle.std.specs.Prelude.{◌≡◌, ℕ, ◌+◌, ◌%◌, ◌<◌, ◌≤�
 use Rattle.std.specs.List.{flat_map}
 use Rattle.wire_core.specs.declared.address.Ip4.{Ip4}
 use Rattle.wire_core.specs.declared.address.Socket.{Socket}
+use Rattle.wire_core.specs.Same.{same_ip}
 use Rattle.wire_core.specs.declared.flow.Proto.{Proto}
 use Rattle.wire_core.specs.Members.{In, Each}
 use Rattle.config_text.specs.declared.agents.AgentConf.{AgentConf}
 use Rattle.config_text.specs.declared.vips.Endpoint.{Endpoint}
+use Rattle.config_text.specs.declared.vips.Member.{Member}
 use Rattle.config_text.specs.Bounds.{HasAgentPorts, HasEndpointPorts, HasPort, HasSpans, IsFrom}
 use Rattle.config_text.specs.Sizes.{HasLength}
 use Rattle.vip_config.specs.Claims.{owners_of}
 use Rattle.vip_config.specs.Machines.{machines_of}
 use Rattle.vip_config.specs.Sockets.{socket_claims}
-use Rattle.vip_config.specs.Ways.{FindsAs, all_attaches, all_leaves}
+use Rattle.vip_config.specs.Ways.{FindsAs, all_attaches, all_leaves, all_services, same_service}
 use Rattle.vip_config.specs.declared.parts.ConfigParts.{ConfigParts}
 use Rattle.vip_config.specs.declared.parts.VipConf.{VipConf}
+use Rattle.vip_config.specs.declared.services.Service.{Service}
 use Rattle.vip_config.specs.declared.who.Who.{Who}
 
 -- no two members are equal
@@ -98,12 +101,14 @@ pub record HasBounds (c : ConfigParts) : Type 0 where
   pub limit : IsFrom 1 1024 c.limit
   pub timers : HasSpans c.timers
 
--- what is looked up in a configuration by a hash: whose a socket is, a machine's agent, its socket and its VIP
+-- what is looked up in a configuration by a hash: whose a socket is, a machine's agent, its socket, its VIP and what it
+-- serves
 pub record Found : Type 0 where
   pub sockets : List (Socket × Who)
   pub machines : List (Ip4 × ℕ)
   pub attached : List (Ip4 × Socket)
   pub leaving : List (Ip4 × Ip4)
+  pub serving : List (Service × Member)
 
 -- The parts keep the rules, and what is looked up is what they say.
 pub record IsConfig (c : ConfigParts) (found : Found) : Type 0 where
@@ -112,5 +117,6 @@ pub record IsConfig (c : ConfigParts) (found : Found) : Type 0 where
   pub bounds : HasBounds c
   pub of_sockets : found.sockets ≡ owners_of (socket_claims c.router c.replicas c.muxes c.agents)
   pub of_machines : found.machines ≡ machines_of c.agents
-  pub of_attached : FindsAs found.attached (all_attaches c.agents)
-  pub of_leaving : FindsAs found.leaving (all_leaves c.vips)
+  pub of_attached : FindsAs same_ip found.attached (all_attaches c.agents)
+  pub of_leaving : FindsAs same_ip found.leaving (all_leaves c.vips)
+  pub of_serving : FindsAs same_service found.serving (all_services c.vips)

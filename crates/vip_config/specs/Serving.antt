@@ -1,5 +1,5 @@
 -- Which machines leave from a VIP, which serve it, and where each machine is reached.
-use Rattle.std.specs.Prelude.{ℕ, Bool, ◌&&◌, ◌==◌, if◌then◌else◌, List, [], map, find, Option, Some, None, option_map}
+use Rattle.std.specs.Prelude.{ℕ, Bool, ◌&&◌, ◌==◌, if◌then◌else◌, List, [], find, Option, Some, None, option_map}
 use Rattle.std.specs.List.{list_any, flat_map}
 use Rattle.std.specs.Map.{lookup}
 use Rattle.wire_core.specs.declared.address.Ip4.{Ip4}
@@ -12,6 +12,7 @@ use Rattle.vip_config.specs.Machines.{agent_of, machines_of}
 use Rattle.vip_config.specs.Ways.{all_attaches}
 use Rattle.vip_config.specs.declared.parts.ConfigParts.{ConfigParts}
 use Rattle.vip_config.specs.declared.parts.VipConf.{VipConf}
+use Rattle.vip_config.specs.declared.services.Service.{Service}
 
 -- ---- machines
 
@@ -59,6 +60,10 @@ endpoint_for vips k = find (serves k) (endpoints_at vips k.dst)
 abbrev pub member_in : Ip4 → Option Endpoint → Option Member
 member_in machine None = None
 member_in machine (Some endpoint) = find (λ (m : Member). same_ip m.address machine) endpoint.machines
+
+-- what the machine serves where packets with this key are for it
+abbrev pub service_for : FlowKey → Ip4 → Service
+service_for k machine = record { vip = k.dst; proto = k.proto; port = k.dport; machine = machine }
 
 -- The machine as one that serves the endpoint that packets with this key are for.
 unfoldable pub member_at : List VipConf → FlowKey → Ip4 → Option Member

@@ -1,5 +1,5 @@
 -- Whose each socket is.
-use Rattle.std.specs.Prelude.{ℕ, ◌==◌, Bool, true, ◌&&◌, List, [], ◌∷◌, ◌++◌}
+use Rattle.std.specs.Prelude.{ℕ, true, List, [], ◌∷◌, ◌++◌}
 use Rattle.wire_core.specs.declared.address.Socket.{Socket}
 use Rattle.config_text.specs.declared.agents.AgentConf.{AgentConf}
 use Rattle.config_text.specs.declared.agents.Attach.{Attach}

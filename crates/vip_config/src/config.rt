@@ -10,7 +10,7 @@ ghost use Rattle.vip_config.specs.Places.{path};
 ghost use Rattle.vip_config.specs.Queries.{KnowsOwners, counts_of, socket_of, who_of};
 ghost use Rattle.vip_config.specs.Rules.{HasBounds, HasLengths, KeepsRules, Once};
 ghost use Rattle.vip_config.specs.Sockets.{socket_claims};
-ghost use Rattle.vip_config.specs.Serving.{attach_of, has_snat, snat_vip};
+ghost use Rattle.vip_config.specs.Serving.{attach_of, has_snat, member_at, snat_vip};
 ghost use Rattle.vip_config.specs.Vips.{HasPorts};
 ghost use Rattle.vip_config.specs.declared.parts.ConfigParts as parts;
 ghost use Rattle.wire_core.specs.Members.{Each};
@@ -23,12 +23,13 @@ use crate::leases::make_rules;
 use crate::narrow::narrow_vips;
 use crate::parts::{ConfigParts, VipConf};
 use crate::place::Place;
+use crate::services::find_member;
 use crate::ways::{Ways, index_ways};
 use crate::who::Who;
-use config_text::{AgentConf, ConfigFault, Settings, Timers};
+use config_text::{AgentConf, ConfigFault, Member, Settings, Timers};
 use std::alloc::Global;
 use std::marker::Model;
-use wire_core::{Ip4, LeaseRules, NoMemory, NodeId, Socket};
+use wire_core::{FlowKey, Ip4, LeaseRules, NoMemory, NodeId, Socket};
 
 /// A configuration that keeps every rule.
 #[derive(Drop)]
@@ -51,6 +52,7 @@ impl Model for Config {
       machines = c.index.machines.entries;
       attached = c.ways.attached.entries;
       leaving = c.ways.leaving.entries;
+      serving = c.ways.serving.entries;
     }) };
 }
 
@@ -242,6 +244,14 @@ impl Config {
             Some(found) => *found == vip,
             None => false,
         }
+    }
+
+    /// The machine as one that serves the endpoint that packets with this key are for. `None` exactly where there is no
+    /// such endpoint, or the machine doesn't serve it. A look-up by a hash.
+    pub fn member_at(&self, key: &FlowKey, machine: Ip4) -> Option<Member>
+        ensures { result ≡ member_at self.now.vips key.now machine }
+    {
+        find_member(&self.ways.serving, key, machine)
     }
 
     /// How many muxes, agents, machines and VIPs there are.

@@ -113,10 +113,12 @@ pub fn copy_parts(alloc: Global, parts: &ConfigParts) -> Result<ConfigParts, NoM
 pub fn copy_ways(ways: &Ways) -> Result<Ways, NoMemory>
     ensures attached { IfOk result (λ copy. copy.attached.entries ≡ ways.now.attached.entries) }
     ensures leaving { IfOk result (λ copy. copy.leaving.entries ≡ ways.now.leaving.entries) }
+    ensures serving { IfOk result (λ copy. copy.serving.entries ≡ ways.now.serving.entries) }
 {
     Ok(Ways {
         attached: ways.attached.clone()?,
         leaving: ways.leaving.clone()?,
+        serving: ways.serving.clone()?,
     })
 }
 

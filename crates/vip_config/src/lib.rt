@@ -17,10 +17,11 @@
 //! | `parts`, `narrow` | the values of a configuration; ports as port numbers | |
 //! | `config` | [`Config`]: the public calls | |
 //! | `rules` | [`broken_rules`]: the rules are broken exactly where their plain words do not hold | |
+//! | `ways`, `services` | where each machine is reached, from which VIP it leaves, and what it serves | |
 //! | `leases`, `counts`, `copies` | the rules of leasing, numbers of members, a copy | |
 //!
-//! A [`Config`] is seen as its parts. That it keeps the rules is [`Config::keeps_rules`]. Whose a socket is and of
-//! which agent a machine is, is found by a hash.
+//! A [`Config`] is seen as its parts. That it keeps the rules is [`Config::keeps_rules`]. Whose a socket is, of which
+//! agent a machine is, and what it serves, is found by a hash.
 #![tactic(auto)]
 
 mod broken;
@@ -35,6 +36,7 @@ mod narrow;
 mod parts;
 mod place;
 mod rules;
+mod services;
 mod snat;
 mod sockets;
 mod vips;

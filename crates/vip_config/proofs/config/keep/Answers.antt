@@ -24,4 +24,5 @@ invariant_of-result c =
       of_machines = c.requires.machines ∙ ap (λ (p : ConfigParts). machines_of p.agents) is;
       of_attached = c.in_ok-ways.ensures.attached;
       of_leaving = c.in_ok-ways.ensures.leaving;
+      of_serving = c.in_ok-ways.ensures.serving;
     }

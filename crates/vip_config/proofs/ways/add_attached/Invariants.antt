@@ -1,8 +1,9 @@
 use Rattle.std.proofs.Common.{◌++◌, map, take}
+use Rattle.wire_core.specs.Same.{same_ip}
 use Rattle.vip_config.specs.Ways.{FindsAs}
 use Rattle.vip_config.proofs.ways.add_attached.Given as goal
 
 abbrev pub invariant-loop-machine : goal.invariant-loop-machine
 invariant-loop-machine l =
-    FindsAs l.index.entries
+    FindsAs same_ip l.index.entries
     (l.fn.index.entries ++ map (λ machine. (machine.address, machine.attach)) (take l.machine-index l.machines))
