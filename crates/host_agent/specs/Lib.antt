@@ -6,4 +6,3 @@ pub mod Retries
 pub mod Hosts
 pub mod Transfers
 pub mod Idle
-pub mod Served

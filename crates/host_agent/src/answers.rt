@@ -8,8 +8,8 @@ ghost use Rattle.agent_spec.specs.Agent.{Host, host_of, of_site};
 ghost use Rattle.host_agent.specs.Seen.{site, with_lists};
 ghost use Rattle.node_spec.specs.Steps.{turned};
 
-use crate::agent::Agent;
 use crate::notes::drop_for;
+use crate::state::State;
 use agent_spec::Granting;
 use std::alloc::Global;
 use wire_core::{DropCause, Ip4, NoMemory, Range, Step};
@@ -23,7 +23,7 @@ pub(crate) struct Granted {
     pub range: Range,
 }
 
-impl Agent {
+impl State {
     /// AgentKnown: a primary knows this boot.
     #[tactic(auto, using(node_spec::proofs::Turning::quiet_turned, node_spec::proofs::Turning::drop_turned), unfolding(agent_spec::specs::Answers::on_known))]
     pub(crate) fn on_known(&mut self, step: &mut Step, from: u8, boot: u64) -> Result<(), NoMemory>

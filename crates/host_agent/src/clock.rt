@@ -6,8 +6,8 @@ ghost use Rattle.agent_spec.specs.Clock.{asks_again, at_now, idle_leave, on_tick
 ghost use Rattle.host_agent.specs.Seen.{as_is, with_lists};
 ghost use Rattle.node_spec.specs.Steps.{outgoing, turned, with_sends};
 
-use crate::agent::Agent;
 use crate::leavers::leave_idle;
+use crate::state::State;
 use crate::telling::{ask_each, return_each, say_all};
 use control_msg::Message;
 use std::alloc::Global;
@@ -16,7 +16,7 @@ use wire_core::{NoMemory, Step};
 /// The most numbers that are given back again at a tick.
 const MOST_RETURNS: usize = 64;
 
-impl Agent {
+impl State {
     /// AgentUp to all five, unless a primary knows this boot.
     #[tactic(auto, unfolding(agent_spec::specs::Clock::up_again))]
     fn say_up(&self, alloc: Global, step: &mut Step) -> Result<(), NoMemory>

@@ -5,9 +5,9 @@ ghost use Rattle.host_agent.specs.Seen.{as_is, site, with_lists};
 ghost use Rattle.node_spec.specs.Steps.{turned};
 ghost use Rattle.packet_spec.specs.Packets.{packet_fault, read_packet};
 
-use crate::agent::Agent;
 use crate::host::{Host, Origin};
 use crate::notes::drop_for;
+use crate::state::State;
 use crate::traffic::Traffic;
 use crate::trying::try_packet;
 use packet_edit::Packet;
@@ -75,7 +75,7 @@ pub(crate) fn read_machine_packet(
     }
 }
 
-impl Agent {
+impl State {
     /// A packet from a machine's socket.
     #[tactic(auto, using(node_spec::proofs::Turning::drop_turned), unfolding(agent_spec::specs::Packets::from_machine))]
     pub(crate) fn from_machine(

@@ -8,9 +8,9 @@ ghost use Rattle.node_spec.specs.Boots.{boot_after, boot_of};
 ghost use Rattle.vip_config.specs.Rules.{Once, all_machines};
 ghost use Rattle.wire_core.specs.Entries.{read_entry};
 
-use crate::agent::Agent;
 use crate::host::Origin;
 use crate::machines::Machines;
+use crate::state::State;
 use crate::traffic::Traffic;
 use config_text::{AgentConf, Attach};
 use std::alloc::Global;
@@ -58,17 +58,15 @@ fn machines_of(cfg: &Config, index: u16) -> &[Attach]
     }
 }
 
-impl Agent {
-    /// An agent as it opens under a configuration: its boot is the greatest of the entries that the bodies spell, and
-    /// it has nothing else. It takes a copy of the configuration. The cost is linear in the configuration and in the
-    /// bodies.
+impl State {
+    /// As it opens under a configuration, of which it takes a copy.
     #[tactic(auto, unfolding(agent_spec::specs::Agent::opened_agent))]
-    pub fn recover(
+    pub(crate) fn recover(
         alloc: Global,
         cfg: &Config,
         index: u16,
         bodies: &BodyList,
-    ) -> Result<Agent, NoMemory>
+    ) -> Result<State, NoMemory>
         ensures { IfOk result (λ a. a
             ≡ record { config = cfg.now; lists = opened_agent cfg.now index (entries_of bodies.now) }) }
     {
@@ -78,7 +76,7 @@ impl Agent {
         let rules = cfg.lease_rules(alloc)?;
         let cfg = cfg.copy(alloc)?;
         let boot = greatest_boot(bodies.as_slice());
-        Ok(Agent {
+        Ok(State {
             cfg,
             rules,
             index,

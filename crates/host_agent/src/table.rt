@@ -1,28 +1,28 @@
 // Which input is which row.
-ghost use Rattle.std.specs.Prelude.{◌≡◌, slice_get, option_map, IfOk, OnOk};
+ghost use Rattle.std.specs.Prelude.{◌≡◌, IfOk, OnOk};
 ghost use Rattle.agent_spec.specs.AgentTable.{agent_hears, agent_step, agent_takes, from_mux, from_replica};
+ghost use Rattle.agent_spec.specs.Keys.{EntriesApart};
 ghost use Rattle.agent_spec.specs.Wrapped.{on_wrapped, outer_as};
 ghost use Rattle.host_agent.specs.Seen.{with_lists};
 ghost use Rattle.ipip.specs.Wrapping.{inner_of};
-ghost use Rattle.agent_spec.specs.declared.held.Held.{Held};
 ghost use Rattle.node_spec.specs.Datagrams.{by_heard, heard};
 ghost use Rattle.node_spec.specs.Steps.{input_of, turned};
 ghost use Rattle.node_spec.specs.Turns.{drop_turn};
+ghost use Rattle.vip_config.specs.Rules.{KeepsRules};
 ghost use Rattle.wire_core.specs.Steps.{no_step};
 
-use crate::agent::Agent;
 use crate::answers::Granted;
 use crate::hearing::{Heard, hear};
 use crate::notes::drop_for;
+use crate::state::State;
 use crate::wrapped::{may_wrap, take_inner};
-use agent_spec::Connection;
 use control_msg::Message;
 use ipip::{Inner, unwrap, unwrap_cause};
 use std::alloc::Global;
 use vip_config::Who;
-use wire_core::{DropCause, Input, Ip4, NoMemory, NodeId, Range, Socket, Step};
+use wire_core::{DropCause, Input, NoMemory, NodeId, Range, Socket, Step};
 
-impl Agent {
+impl State {
     /// A replica's message.
     #[tactic(auto, using(node_spec::proofs::Turning::drop_turned))]
     fn from_replica(
@@ -94,6 +94,7 @@ impl Agent {
         sender: Who,
         inner: &Inner<'_>,
     ) -> Result<(), NoMemory>
+        requires { EntriesApart self.old.config self.old.lists.traffic.inbound }
         ensures { OnOk result ((self.new, step.new)
             ≡ turned (with_lists self.old) self.old.config step.old
             (outer_as self.old.config self.old.lists sender (inner_of inner.now))) }
@@ -125,6 +126,7 @@ impl Agent {
         sender: Who,
         bytes: &[u8],
     ) -> Result<(), NoMemory>
+        requires { EntriesApart self.old.config self.old.lists.traffic.inbound }
         ensures { OnOk result ((self.new, step.new)
             ≡ turned (with_lists self.old) self.old.config step.old
             (on_wrapped self.old.config self.old.lists sender bytes.now)) }
@@ -144,6 +146,7 @@ impl Agent {
         sender: Who,
         bytes: &[u8],
     ) -> Result<(), NoMemory>
+        requires { EntriesApart self.old.config self.old.lists.traffic.inbound }
         ensures { OnOk result ((self.new, step.new)
             ≡ turned (with_lists self.old) self.old.config step.old
             (agent_takes self.old.config self.old.lists sender bytes.now)) }
@@ -164,6 +167,7 @@ impl Agent {
         step: &mut Step,
         input: &Input<'_>,
     ) -> Result<(), NoMemory>
+        requires { EntriesApart self.old.config self.old.lists.traffic.inbound }
         ensures { OnOk result ((self.new, step.new)
             ≡ turned (with_lists self.old) self.old.config step.old
             (agent_step self.old.config self.old.lists (input_of input.now))) }
@@ -183,6 +187,7 @@ impl Agent {
         from: &Socket,
         bytes: &[u8],
     ) -> Result<(), NoMemory>
+        requires { EntriesApart self.old.config self.old.lists.traffic.inbound }
         ensures { OnOk result ((self.new, step.new)
             ≡ turned (with_lists self.old) self.old.config step.old
             (by_heard (drop_turn self.old.lists) (agent_hears self.old.config self.old.lists)
@@ -195,33 +200,24 @@ impl Agent {
         }
     }
 
-    /// One input: a datagram or a tick. The step is what the agent's table says, and so are the lists that are left.
-    /// The agent isn't used again after want of memory.
-    pub fn handle(&mut self, alloc: Global, input: &Input<'_>) -> Result<Step, NoMemory>
-        ensures { IfOk result (λ step. (self.new, step)
+    /// Its configuration keeps the rules. It does nothing else than to say so.
+    fn keeps_rules(&self)
+        ensures { KeepsRules self.now.config }
+    {
+        self.cfg.keeps_rules();
+    }
+
+    /// One input: a datagram or a tick. The step is what the table says, and so are the lists that are left.
+    pub(crate) fn turn(&mut self, alloc: Global, input: &Input<'_>) -> Result<Step, NoMemory>
+        requires { EntriesApart self.old.config self.old.lists.traffic.inbound }
+        ensures turn { IfOk result (λ step. (self.new, step)
             ≡ turned (with_lists self.old) self.old.config no_step
             (agent_step self.old.config self.old.lists (input_of input.now))) }
+        ensures apart { OnOk result (EntriesApart self.new.config self.new.lists.traffic.inbound) }
     {
+        self.keeps_rules();
         let mut step = Step::new(alloc);
         self.take_input(alloc, &mut step, input)?;
         Ok(step)
-    }
-
-    /// The i-th held range by number, from 0: its number, itself, and its machine. `None` exactly from their count on.
-    pub fn held(&self, i: usize) -> Option<(u64, Range, Ip4)>
-        ensures { result ≡ option_map (λ (h : Held). (h.n, h.range, h.machine))
-            (slice_get self.now.lists.traffic.ranges.held i) }
-    {
-        self.traffic
-            .ports
-            .held(i)
-            .map(|h| (h.n, h.range, h.machine))
-    }
-
-    /// The i-th opened of the connections, from 0. `None` exactly from their count on. Walks over those before it.
-    pub fn connection(&self, i: usize) -> Option<Connection>
-        ensures { result ≡ slice_get self.now.lists.traffic.conns i }
-    {
-        self.traffic.ports.connection(i)
     }
 }

@@ -8,10 +8,10 @@ ghost use Rattle.agent_spec.specs.Traffic.{close_conn, inbound_touched, open_con
 ghost use Rattle.host_agent.specs.Seen.{as_is};
 ghost use Rattle.node_spec.specs.Steps.{turned};
 
-use agent_flows::{Flows, conn_of, private_key, public_key};
+use agent_flows::{Flows, conn_of, private_key};
 use agent_ports::Ports;
 use agent_spec::{Connection, Granting};
-use std::alloc::{AllocError, Global};
+use std::alloc::Global;
 use std::marker::Model;
 use vip_config::Config;
 use wire_core::{Act, Ip4, NoMemory, Range, Step};
@@ -105,16 +105,13 @@ impl Traffic {
         Ok(())
     }
 
-    /// One inbound entry more, where there is room. No two endpoints have one port of a machine, so none has its keys.
+    /// One inbound entry more, with keys that no other has, and where there is room.
     pub(crate) fn enter(&mut self, c: &Connection) -> Result<(), NoMemory>
+        requires private { by_private (private_key c.now) self.old.inbound ≡ None }
+        requires public { by_public (public_key c.now) self.old.inbound ≡ None }
         requires room { nat_le most (length self.old.inbound) ≡ false }
         ensures { OnOk result (self.new ≡ record self.old { inbound = self.old.inbound ++ c.now ∷ [] }) }
     {
-        if self.inbound.find_private(&private_key(c)).is_some()
-            || self.inbound.find_public(&public_key(c)).is_some()
-        {
-            return Err(AllocError);
-        }
         self.inbound.open(*c)?;
         Ok(())
     }

@@ -1,6 +1,7 @@
 // Wrapped packets from muxes and agents.
 ghost use Rattle.std.specs.Prelude.{◌≡◌, None, OnOk};
 ghost use Rattle.agent_spec.specs.Connections.{by_public, public_key};
+ghost use Rattle.agent_spec.specs.Keys.{EntriesApart, IsServed};
 ghost use Rattle.agent_spec.specs.Wrapped.{by_reply, clears_peer, delivered, enters, enters_or_meets, inner_as, may_wrap};
 ghost use Rattle.agent_spec.specs.Wrapped.{new_entry, reply, to_member, to_server};
 ghost use Rattle.host_agent.specs.Seen.{as_is};
@@ -8,7 +9,6 @@ ghost use Rattle.node_spec.specs.Steps.{turned};
 ghost use Rattle.packet_spec.specs.Packets.{packet_fault, read_packet};
 
 use crate::handing::hand;
-use crate::looks::member_at;
 use crate::notes::drop_for;
 use crate::traffic::Traffic;
 use crate::using::close_after;
@@ -85,7 +85,7 @@ fn clears_peer(sender: Who, packet: &Packet<'_>) -> bool
     matches!(sender, Who::Mux(_)) && packet.syn() && !packet.ack()
 }
 
-/// An inbound entry is made where there is room, and the packet is handed.
+/// An inbound entry is made where there is room, and the packet is handed. None has its public key.
 #[tactic(auto, using(node_spec::proofs::Turning::drop_turned, crate::proofs::Handed::hand_turned), unfolding(agent_spec::specs::Wrapped::enters))]
 fn enter(
     alloc: Global,
@@ -95,13 +95,17 @@ fn enter(
     packet: &Packet<'_>,
     made: &Connection,
 ) -> Result<(), NoMemory>
-    requires { packet_fault packet.now ≡ None }
+    requires fine { packet_fault packet.now ≡ None }
+    requires apart { EntriesApart cfg.now traffic.old.inbound }
+    requires served { IsServed cfg.now.vips made.now }
+    requires free { by_public (public_key made.now) traffic.old.inbound ≡ None }
     ensures { OnOk result ((traffic.new, step.new)
         ≡ turned as_is cfg.now step.old (enters traffic.old packet.now made.now)) }
 {
     if traffic.inbound.len() >= MOST {
         return drop_for(step, DropCause::TableFull);
     }
+    cfg.keeps_rules();
     traffic.enter(made)?;
     hand(alloc, cfg, step, made, packet.whole())?;
     Ok(())
@@ -118,7 +122,9 @@ fn enter_or_meet(
     packet: &Packet<'_>,
     made: &Connection,
 ) -> Result<(), NoMemory>
-    requires { packet_fault packet.now ≡ None }
+    requires fine { packet_fault packet.now ≡ None }
+    requires apart { EntriesApart cfg.now traffic.old.inbound }
+    requires served { IsServed cfg.now.vips made.now }
     ensures { OnOk result ((traffic.new, step.new)
         ≡ turned as_is cfg.now step.old
         (enters_or_meets traffic.old sender packet.now made.now
@@ -149,7 +155,9 @@ fn to_server(
     packet: &Packet<'_>,
     made: &Connection,
 ) -> Result<(), NoMemory>
-    requires { packet_fault packet.now ≡ None }
+    requires fine { packet_fault packet.now ≡ None }
+    requires apart { EntriesApart cfg.now traffic.old.inbound }
+    requires served { IsServed cfg.now.vips made.now }
     ensures { OnOk result ((traffic.new, step.new)
         ≡ turned as_is cfg.now step.old (to_server traffic.old sender packet.now made.now)) }
 {
@@ -171,7 +179,8 @@ fn deliver(
     machine: Ip4,
     packet: &Packet<'_>,
 ) -> Result<(), NoMemory>
-    requires { packet_fault packet.now ≡ None }
+    requires fine { packet_fault packet.now ≡ None }
+    requires apart { EntriesApart cfg.now traffic.old.inbound }
     ensures { OnOk result ((traffic.new, step.new)
         ≡ turned as_is cfg.now step.old (delivered cfg.now traffic.old sender machine packet.now)) }
 {
@@ -180,7 +189,7 @@ fn deliver(
         reply(alloc, cfg, traffic, step, machine, packet, &c)?;
         return Ok(());
     }
-    let Some(member) = member_at(cfg, &key, machine) else {
+    let Some(member) = cfg.member_at(&key, machine) else {
         return drop_for(step, DropCause::NoConnection);
     };
     let made = new_entry(traffic.time, &key, machine, member.port);
@@ -199,6 +208,7 @@ pub(crate) fn take_inner(
     machine: Ip4,
     bytes: &[u8],
 ) -> Result<(), NoMemory>
+    requires apart { EntriesApart cfg.now traffic.old.inbound }
     ensures { OnOk result ((traffic.new, step.new)
         ≡ turned as_is cfg.now step.old (inner_as cfg.now traffic.old sender machine (read_packet bytes.now))) }
 {

@@ -3,10 +3,10 @@ use Rattle.std.specs.List.{flat_map}
 use Rattle.node_spec.specs.Steps.{outgoing, turned, with_sends}
 use Rattle.agent_spec.specs.Agent.{Host}
 use Rattle.agent_spec.specs.Clock.{asks_again, renewed, returns_again, says_again, up_again}
-use Rattle.host_agent.specs.contracts.agent.Agent.{the_view}
+use Rattle.host_agent.specs.contracts.state.State.{the_view}
 use Rattle.host_agent.specs.Seen.{Core, with_lists}
 use Rattle.host_agent.proofs.Ticked.{said_turned}
-use Rattle.host_agent.proofs.agent.Agent.say_again.Goals as goal
+use Rattle.host_agent.proofs.state.State.say_again.Goals as goal
 
 pub returns : goal.returns
 returns c =

@@ -5,11 +5,11 @@ use Rattle.wire_core.specs.Steps.{with_note}
 use Rattle.node_spec.specs.Steps.{tried, turned}
 use Rattle.agent_spec.specs.Agent.{host_of}
 use Rattle.agent_spec.specs.Answers.{on_denied}
-use Rattle.host_agent.specs.contracts.agent.Agent.{the_view}
+use Rattle.host_agent.specs.contracts.state.State.{the_view}
 use Rattle.host_agent.specs.Hosts.{denial}
 use Rattle.host_agent.specs.Seen.{Core, as_is, with_lists}
 use Rattle.host_agent.proofs.Sited.{denied_turned, undenied_turned}
-use Rattle.host_agent.proofs.agent.Agent.on_denied.Goals as goal
+use Rattle.host_agent.proofs.state.State.on_denied.Goals as goal
 
 pub returns-then-not-out : goal.returns-then-not-out
 unfolding on_denied

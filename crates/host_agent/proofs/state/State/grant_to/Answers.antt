@@ -13,11 +13,11 @@ use Rattle.std.specs.Prelude.{is_some, Option}
 use Rattle.agent_spec.specs.declared.held.Granting.TheVariants as granting
 use Rattle.agent_spec.specs.Agent.{Agent, Host, Traffic, host_of, of_site}
 use Rattle.agent_spec.specs.Answers.{grant_to, take_grant}
-use Rattle.host_agent.specs.contracts.agent.Agent.{the_view}
+use Rattle.host_agent.specs.contracts.state.State.{the_view}
 use Rattle.host_agent.specs.Seen.{Core, site, with_lists}
 use Rattle.host_agent.specs.Transfers.{granted_to}
 use Rattle.host_agent.proofs.Sited.{grant_barred, grant_new, grant_old, old_same, some_of}
-use Rattle.host_agent.proofs.agent.Agent.grant_to.Goals as goal
+use Rattle.host_agent.proofs.state.State.grant_to.Goals as goal
 
 pub returns-then-not-may : goal.returns-then-not-may
 returns-then-not-may c =

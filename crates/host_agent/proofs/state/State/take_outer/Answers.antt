@@ -4,10 +4,10 @@ use Rattle.packet_spec.specs.Packets.{read_packet}
 use Rattle.node_spec.specs.Steps.{turned}
 use Rattle.agent_spec.specs.Agent.{is_own, with_traffic}
 use Rattle.agent_spec.specs.Wrapped.{inner_as, may_wrap, outer_as}
-use Rattle.host_agent.specs.contracts.agent.Agent.{the_view}
+use Rattle.host_agent.specs.contracts.state.State.{the_view}
 use Rattle.host_agent.specs.Seen.{Core, as_is, with_lists}
 use Rattle.host_agent.proofs.Sited.{lifted_turned}
-use Rattle.host_agent.proofs.agent.Agent.take_outer.Goals as goal
+use Rattle.host_agent.proofs.state.State.take_outer.Goals as goal
 
 pub returns : goal.returns
 returns c =

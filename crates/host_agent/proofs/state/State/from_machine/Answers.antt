@@ -7,10 +7,10 @@ use Rattle.wire_core.specs.Steps.{with_note}
 use Rattle.node_spec.specs.Steps.{tried, turned}
 use Rattle.agent_spec.specs.Agent.{host_of}
 use Rattle.agent_spec.specs.Packets.{from_machine, read_as}
-use Rattle.host_agent.specs.contracts.agent.Agent.{the_view}
+use Rattle.host_agent.specs.contracts.state.State.{the_view}
 use Rattle.host_agent.specs.Seen.{Core, kept_in, site, with_lists}
 use Rattle.host_agent.proofs.Sited.{packet_turned, stranger_turned}
-use Rattle.host_agent.proofs.agent.Agent.from_machine.Goals as goal
+use Rattle.host_agent.proofs.state.State.from_machine.Goals as goal
 
 pub returns-then-own : goal.returns-then-own
 unfolding from_machine

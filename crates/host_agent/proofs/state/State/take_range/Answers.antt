@@ -3,10 +3,10 @@ use Rattle.std.specs.Prelude.{option_map}
 use Rattle.node_spec.specs.Steps.{tried, turned}
 use Rattle.agent_spec.specs.Agent.{host_of, of_site}
 use Rattle.agent_spec.specs.Answers.{take_grant}
-use Rattle.host_agent.specs.contracts.agent.Agent.{the_view}
+use Rattle.host_agent.specs.contracts.state.State.{the_view}
 use Rattle.host_agent.specs.Seen.{Core, kept_in, site, with_lists}
 use Rattle.host_agent.proofs.Sited.{site_turned}
-use Rattle.host_agent.proofs.agent.Agent.take_range.Goals as goal
+use Rattle.host_agent.proofs.state.State.take_range.Goals as goal
 
 pub returns : goal.returns
 returns c = λ h found.

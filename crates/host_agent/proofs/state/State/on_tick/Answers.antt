@@ -2,10 +2,10 @@ use Rattle.std.proofs.Common.{rules, ◌≡◌, ◌∙◌, ap}
 use Rattle.node_spec.specs.Steps.{turned}
 use Rattle.agent_spec.specs.Agent.{with_traffic}
 use Rattle.agent_spec.specs.Clock.{at_now, idle_leave, on_tick, says_again}
-use Rattle.host_agent.specs.contracts.agent.Agent.{the_view}
+use Rattle.host_agent.specs.contracts.state.State.{the_view}
 use Rattle.host_agent.specs.Seen.{Core, as_is, with_lists}
 use Rattle.host_agent.proofs.Ticked.{tick_turned}
-use Rattle.host_agent.proofs.agent.Agent.on_tick.Goals as goal
+use Rattle.host_agent.proofs.state.State.on_tick.Goals as goal
 
 pub returns : goal.returns
 returns c =
