@@ -1,4 +1,3 @@
 pub mod Seen
-pub mod Entries
 pub mod Hearing
 pub mod Routed

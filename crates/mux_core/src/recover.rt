@@ -1,39 +1,18 @@
 // A mux as it opens.
 ghost use Rattle.std.specs.Prelude.{◌≡◌, fold, IfOk};
-ghost use Rattle.mux_core.specs.Entries.{entries_of, entry_in};
 ghost use Rattle.mux_spec.specs.Mux.{opened_mux};
-ghost use Rattle.node_spec.specs.Boots.{boot_after, boot_of, epoch_after, epoch_of};
+ghost use Rattle.node_spec.specs.Bodies.{entries_of, entry_in};
+ghost use Rattle.node_spec.specs.Boots.{epoch_after, epoch_of};
 ghost use Rattle.wire_core.specs.Entries.{read_entry};
 
 use crate::flows::TimedFlows;
 use crate::mux::Mux;
 use crate::routes::Routes;
 use mux_spec::Gate;
+use node_spec::greatest_boot;
 use std::alloc::Global;
 use vip_config::Config;
 use wire_core::{BodyList, Entry, EntryBytes, NoMemory};
-
-/// The greater of a boot and of the one that the body tells, if it tells one.
-fn boot_after(boot: u64, body: &[u8]) -> u64
-    ensures { result ≡ fold boot_after boot (entry_in (read_entry body.now)) }
-{
-    match Entry::read(body) {
-        Ok(Entry::Boot { boot: later, .. }) => boot.max(later),
-        _ => boot,
-    }
-}
-
-/// The greatest boot of the entries, at first 0.
-#[tactic(auto, unfolding(node_spec::specs::Boots::boot_of, crate::specs::Entries::entries_of))]
-fn greatest_boot(bodies: &[EntryBytes]) -> u64
-    ensures { result ≡ boot_of (entries_of bodies.now) }
-{
-    let mut boot = 0;
-    for body in bodies {
-        boot = boot_after(boot, body.as_slice());
-    }
-    boot
-}
 
 /// The greater of an epoch and of the one that the body tells, if it tells one.
 fn epoch_after(epoch: u64, body: &[u8]) -> u64
@@ -46,7 +25,7 @@ fn epoch_after(epoch: u64, body: &[u8]) -> u64
 }
 
 /// The greatest epoch of the entries, at first 0.
-#[tactic(auto, unfolding(node_spec::specs::Boots::epoch_of, crate::specs::Entries::entries_of))]
+#[tactic(auto, unfolding(node_spec::specs::Boots::epoch_of, node_spec::specs::Bodies::entries_of))]
 fn greatest_epoch(bodies: &[EntryBytes]) -> u64
     ensures { result ≡ epoch_of (entries_of bodies.now) }
 {

@@ -6,6 +6,7 @@ ghost use Rattle.mux_spec.specs.MuxTable.{from_replica, mux_hears, mux_step};
 ghost use Rattle.mux_spec.specs.Packets.{on_packet, passing};
 ghost use Rattle.mux_spec.specs.Redirects.{resolved};
 ghost use Rattle.mux_spec.specs.Rows.{kept_at};
+ghost use Rattle.node_spec.specs.Bodies.{Spells};
 ghost use Rattle.node_spec.specs.Datagrams.{by_heard, heard};
 ghost use Rattle.node_spec.specs.Steps.{input_of, turned};
 ghost use Rattle.node_spec.specs.Turns.{drop_turn};
@@ -20,7 +21,7 @@ use crate::sends::send_packet;
 use control_msg::Message;
 use ipip::Buf;
 use mux_spec::{Order, Verdict};
-use node_spec::say_each;
+use node_spec::{is_in_bytes, say_each};
 use std::alloc::Global;
 use vip_config::Who;
 use wire_core::{DropCause, Input, Ip4, NoMemory, NodeId, Range, Socket, Step};
@@ -183,10 +184,13 @@ impl Mux {
     /// packet is taken through a buffer that is made for it; [`Mux::packet`] takes one through the caller's. A datagram
     /// costs look-ups by a hash; a tick looks at the flows that leave. The mux isn't used again after want of memory.
     pub fn handle(&mut self, alloc: Global, input: &Input<'_>) -> Result<Step, NoMemory>
-        ensures { IfOk result (λ step. (self.new, step)
+        ensures turned { IfOk result (λ step. (self.new, step)
             ≡ turned (with_lists self.old) self.old.config no_step
             (mux_step self.old.config self.old.lists (input_of input.now))) }
+        ensures written { IfOk result (λ step. Spells step.entry
+            (mux_step self.old.config self.old.lists (input_of input.now)).entry) }
     {
+        is_in_bytes(input);
         let mut step = Step::new(alloc);
         self.take_input(alloc, &mut step, input)?;
         Ok(step)
