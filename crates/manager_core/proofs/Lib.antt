@@ -1,6 +1,7 @@
 pub mod LogLaws
 pub mod QueueLaws
 pub mod TurnLaws
+pub mod Spelled
 pub mod Rooms
 pub mod RowLaws
 pub mod PeerLaws
@@ -8,3 +9,5 @@ pub mod DueLaws
 pub mod ZeroLaws
 pub mod WalkLaws
 pub mod PushLaws
+pub mod PendingLaws
+pub mod QuietLaws

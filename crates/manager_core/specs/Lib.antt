@@ -1,3 +1,4 @@
 pub mod Log
 pub mod Seen
 pub mod Rows
+pub mod Pending

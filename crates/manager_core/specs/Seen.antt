@@ -7,7 +7,9 @@ use Rattle.wire_core.specs.declared.step.Step.{Step}
 use Rattle.vip_config.specs.declared.parts.ConfigParts.{ConfigParts}
 use Rattle.vip_config.specs.declared.who.Who.{Who}
 use Rattle.vip_config.specs.declared.who.Who.TheVariants as who
+use Rattle.paxos_spec.specs.Acceptor.{kept}
 use Rattle.paxos_spec.specs.Events.{Replica}
+use Rattle.paxos_spec.specs.Replica.{Out}
 use Rattle.wire_core.specs.declared.node.NodeId.TheVariants.{Mux}
 use Rattle.control_msg.specs.declared.message.Message.{Message}
 use Rattle.node_spec.specs.Sends.{Send, tell}
@@ -33,6 +35,10 @@ with_lists core lists = record core { lists = lists }
 -- its part in the agreement
 abbrev pub part : Manager → Replica
 part r = record { acceptor = r.acceptor; memory = r.memory }
+
+-- after a step of the agreement's replica
+abbrev pub stepped : Manager → Out → Manager
+stepped r o = record r { acceptor = kept r.acceptor o.entry; memory = o.memory }
 
 -- what a turn leaves, and its step
 abbrev pub taken : Core → Turn Manager → Core × Step

@@ -66,17 +66,18 @@ impl Manager {
 
     /// A primary leads on.
     #[tactic(auto, using(node_spec::proofs::Turning::says_turned))]
-    fn leads(&self) -> Result<Step, NoMemory>
-        requires { self.now.sound ≡ true }
-        ensures { IfOk result (λ step. (self.now, step) ≡ taken self.now (leads self.now.config self.now.lists)) }
+    fn leads(&mut self) -> Result<Step, NoMemory>
+        requires { self.old.sound ≡ true }
+        ensures { IfOk result (λ step. (self.new, step) ≡ taken self.old (leads self.old.config self.old.lists)) }
     {
         let mut step = Step::new(self.alloc);
+        self.look()?;
         self.say_leads(&mut step)?;
         Ok(step)
     }
 
     /// It runs for election, where a ballot of its own fits.
-    #[tactic(auto, unfolding(crate::specs::Rows::ran, crate::specs::Log::Fits, node_spec::specs::Steps::onto, node_spec::specs::Steps::turned), using(crate::proofs::RowLaws::campaign_row, crate::proofs::Rooms::campaign_fits, crate::proofs::Rooms::fits_room))]
+    #[tactic(auto, unfolding(crate::specs::Rows::ran, crate::specs::Log::Fits, node_spec::specs::Steps::onto, node_spec::specs::Steps::turned), using(crate::proofs::PendingLaws::current_new, crate::proofs::RowLaws::campaign_row, crate::proofs::Rooms::campaign_fits, crate::proofs::Rooms::fits_room))]
     fn runs(&mut self) -> Result<Step, NoMemory>
         requires sound { self.old.sound ≡ true }
         requires may { is_primary self.old.lists.memory.leader.stage ≡ false }
@@ -87,6 +88,7 @@ impl Manager {
             return Ok(Step::new(self.alloc));
         };
         self.acks.clear();
+        self.pending.clear();
         self.queue.clear();
         self.agree_heard(step)
     }

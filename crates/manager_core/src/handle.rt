@@ -1,16 +1,20 @@
-ghost use Rattle.std.specs.Prelude.{◌≡◌, ◌<◌, true, IfOk};
+ghost use Rattle.std.specs.Prelude.{◌≡◌, ◌<◌, true, IfOk, IfSome};
 ghost use Rattle.manager_core.specs.Seen.{IsBelowFive, halved, taken, with_lists};
 ghost use Rattle.manager_spec.specs.ManagerTable.{from_agent, from_mux, from_replica, manager_half, manager_hears, manager_step, manager_takes, refuses};
 ghost use Rattle.manager_spec.specs.Proposal.{whole};
+ghost use Rattle.node_spec.specs.Bodies.{Spells};
 ghost use Rattle.node_spec.specs.Datagrams.{admitted, by_heard, decoded, is_mux, is_redirect};
 ghost use Rattle.node_spec.specs.Steps.{input_of, turned};
 ghost use Rattle.node_spec.specs.Turns.{Arrived};
 ghost use Rattle.control_msg.specs.Reading.{message_at};
+ghost use Rattle.paxos_spec.specs.Leader.{value_out};
+ghost use Rattle.wire_core.specs.Commands.{IsValue};
 ghost use Rattle.wire_core.specs.Steps.{no_step};
 
 use crate::half::{Half, stops};
 use crate::manager::Manager;
 use control_msg::{Frame, Message, decode};
+use node_spec::is_in_bytes;
 use std::alloc::AllocError;
 use vip_config::Who;
 use wire_core::{DropCause, Input, NoMemory, Socket, Step};
@@ -157,21 +161,44 @@ impl Manager {
         }
     }
 
-    /// What an input makes of a replica: its step, whose entry is to be durable before a datagram leaves. Every input is
-    /// taken: one that is dropped leaves all as it was, and its cause is noted. Without memory it isn't to be used again,
-    /// and where it isn't whole it says no more than that.
+    /// What is outstanding is a value. It does nothing else than to say so.
+    fn proposes_a_value(&self)
+        ensures { IfSome (value_out self.now.lists.memory.leader.out) IsValue }
+    {
+        if let Some(value) = self.log.replica().outstanding() {
+            value.keeps_rules();
+        }
+    }
+
+    /// What an input makes of a whole replica: its row, and the proposal where one follows.
     #[tactic(auto, unfolding(manager_spec::specs::ManagerTable::manager_step, manager_spec::specs::Proposal::whole, crate::specs::Seen::halved, node_spec::specs::Steps::turned), using(crate::proofs::TurnLaws::proposed_onto))]
-    pub fn handle(&mut self, input: &Input) -> Result<Step, NoMemory>
+    fn take_input(&mut self, input: &Input) -> Result<Step, NoMemory>
+        requires { self.old.sound ≡ true }
         ensures { IfOk result (λ step. (self.new, step) ≡ turned (with_lists self.old) self.old.config no_step
             (manager_step self.old.config self.old.lists (input_of input.now))) }
     {
-        if !self.log.is_sound() {
-            return Err(AllocError);
-        }
         let mut half = self.half(input)?;
         if half.proposes {
             self.propose(&mut half.step)?;
         }
         Ok(half.step)
+    }
+
+    /// What an input makes of a replica: its step, whose entry is to be durable before a datagram leaves. Every input is
+    /// taken: one that is dropped leaves all as it was, and its cause is noted. Without memory it isn't to be used again,
+    /// and where it isn't whole it says no more than that.
+    pub fn handle(&mut self, input: &Input) -> Result<Step, NoMemory>
+        ensures turned { IfOk result (λ step. (self.new, step) ≡ turned (with_lists self.old) self.old.config no_step
+            (manager_step self.old.config self.old.lists (input_of input.now))) }
+        ensures written { IfOk result (λ step. Spells step.entry
+            (manager_step self.old.config self.old.lists (input_of input.now)).entry) }
+    {
+        if !self.log.is_sound() {
+            return Err(AllocError);
+        }
+        is_in_bytes(input);
+        self.proposes_a_value();
+        let step = self.take_input(input)?;
+        Ok(step)
     }
 }

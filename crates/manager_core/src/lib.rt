@@ -11,7 +11,7 @@
 //! | Accept, Accepted, Chosen, Fetch | what the log gets | `voting` |
 //! | Ask, Return, AgentUp | what agents ask for | `agents`, with the requests that wait in `queue` |
 //! | MuxHello, MuxRefuse, Programmed, Unprogrammed | what muxes say | `muxes` |
-//! | the time | a primary leads on, another runs for election | `clock`, with what muxes are told again in `push` |
+//! | the time | a primary leads on, another runs for election | `clock`, with what muxes are told again in `push`, and what needn't be looked at for that in `pending` |
 //!
 //! A row that ends with the proposal leaves it to `handle`: `half` is a row before its proposal, `proposal` what is due
 //! and proposed, `orders` what is told at once of what was learned. A row of the agreement is one step of
@@ -23,8 +23,10 @@
 //!
 //! Costs: a row of the agreement copies at most two values; a learned value costs what its commands cost in the table; an
 //! acknowledgement is a look-up among the rows with acknowledgements. The proposal looks at the rows that are
-//! BeingLeased and Freeing until 16 commands are due, and a primary's tick at the rows until 64 messages are: where all
-//! is acknowledged, at each row.
+//! BeingLeased and Freeing until 16 commands are due. A primary's tick looks at the rows that are new since the last one,
+//! and then, until 64 messages are said, at those that are Freeing or that a mux with a known boot may lack: `pending`
+//! keeps which these are. So rows that each mux has cost an event nothing, but for the first tick of a lead and the one
+//! after a mux came in a later boot, at which it looks at each row.
 #![tactic(auto)]
 
 mod agents;
@@ -37,6 +39,7 @@ mod manager;
 mod muxes;
 mod opening;
 mod orders;
+mod pending;
 mod proposal;
 mod push;
 mod queue;

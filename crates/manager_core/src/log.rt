@@ -1,8 +1,8 @@
-ghost use Rattle.std.specs.Prelude.{◌≡◌, true, IfOk, OnOk};
+ghost use Rattle.std.specs.Prelude.{◌≡◌, ◌<◌, true, IfOk, IfSome, OnOk};
 ghost use Rattle.lease_spec.specs.Table.{known_boot, last_of, row_at, rule_of};
 ghost use Rattle.manager_core.specs.Log.{HasRoom, HasRoomFor, stepped, table_after, table_again, table_with};
 ghost use Rattle.manager_spec.specs.Manager.{effects_of, leases_of};
-ghost use Rattle.paxos_spec.specs.Acceptor.{follow, reach};
+ghost use Rattle.paxos_spec.specs.Acceptor.{follow, kept, reach};
 ghost use Rattle.paxos_spec.specs.Events.{new_replica, on_epoch};
 ghost use Rattle.port_leases.specs.TableState.{onward_all, onward_in, outcome_of, pair_of, row_above, rows_above};
 ghost use Rattle.port_leases.specs.TableState.{rows_in};
@@ -121,6 +121,8 @@ impl LeaseLog {
         requires sound { self.old.sound ≡ true }
         requires room { HasRoom (reach self.old.replica.acceptor) step.entry }
         ensures rules { self.new.rules ≡ self.old.rules }
+        ensures kept { self.new.sound ≡ true
+            → self.new.replica.acceptor ≡ kept self.old.replica.acceptor step.entry }
         ensures log { OnOk result (self.new ≡ stepped self.old step) }
         ensures effects { IfOk result (λ effects.
             effects ≡ effects_of self.old.rules self.old.replica.acceptor step.entry) }
@@ -167,8 +169,10 @@ impl LeaseLog {
     }
 
     /// The row with the least number above this one.
+    #[tactic(auto, using(crate::proofs::QuietLaws::first_above))]
     pub fn next_row(&self, above: u64) -> Option<Row>
         requires { self.now.sound ≡ true }
+        ensures above { IfSome result (λ row. above < row.n) }
         ensures row { result ≡ row_above (leases_of self.now.rules self.now.replica.acceptor).rows above }
         ensures walk { rows_above (leases_of self.now.rules self.now.replica.acceptor).rows above
             ≡ onward_all (leases_of self.now.rules self.now.replica.acceptor).rows result }

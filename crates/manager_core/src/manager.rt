@@ -1,7 +1,7 @@
 ghost use Rattle.std.specs.Prelude.{◌≡◌, true, IfOk, IfSome, OnOk};
 ghost use Rattle.manager_core.specs.Log.{Fits, HasRoom};
 ghost use Rattle.manager_core.specs.Rows.{counted, counted_heard};
-ghost use Rattle.manager_core.specs.Seen.{halved, taken, with_lists};
+ghost use Rattle.manager_core.specs.Seen.{halved, stepped, taken, with_lists};
 ghost use Rattle.manager_spec.specs.Manager.{agrees, effects_of, hears, leases, rested};
 ghost use Rattle.manager_spec.specs.Proposal.{stops};
 ghost use Rattle.node_spec.specs.Steps.{turned};
@@ -13,6 +13,7 @@ ghost use Rattle.vip_config.specs.Leases.{lease_rules_of};
 
 use crate::half::{Half, stops};
 use crate::log::LeaseLog;
+use crate::pending::Pending;
 use crate::queue::Queue;
 use crate::saying::{add_acts, spell};
 use manager_spec::{Marks, Peer};
@@ -35,6 +36,8 @@ pub struct Manager {
     pub(crate) log: LeaseLog,
     /// By a row's number, which muxes acknowledged it.
     pub(crate) acks: BTreeMap<u64, Marks>,
+    /// Which rows a push needn't look at.
+    pub(crate) pending: Pending,
     pub(crate) queue: Queue,
     /// What is known of each configured mux, by its number.
     pub(crate) muxes: Vec<Peer>,
@@ -45,8 +48,9 @@ pub struct Manager {
 }
 
 impl Model for Manager {
-    ghost use Rattle.std.specs.Prelude.{◌≡◌, ◌<◌, ◌≤◌, length};
+    ghost use Rattle.std.specs.Prelude.{◌≡◌, ◌<◌, ◌≤◌, length, true};
     ghost use Rattle.vip_config.specs.Leases.{lease_rules_of};
+    ghost use Rattle.manager_core.specs.Pending.{IsCurrent};
     ghost use Rattle.manager_core.specs.Seen.{Core, NumberedFrom};
 
     ghost Value = { Core };
@@ -67,7 +71,9 @@ impl Model for Manager {
     } };
 
     ghost invariant = { λ m. (m.log.rules ≡ lease_rules_of m.cfg) × (m.index < 5)
-        × NumberedFrom 0 m.muxes.items × (length m.muxes.items ≤ 16) };
+        × NumberedFrom 0 m.muxes.items × (length m.muxes.items ≤ 16)
+        × (m.log.sound ≡ true
+        → IsCurrent m.pending (lease_rules_of m.cfg) m.log.replica.acceptor m.acks.entries m.muxes.items) };
 }
 
 impl Manager {
@@ -92,11 +98,13 @@ impl Manager {
     }
 
     /// A follower has no acknowledgements and no queue.
+    #[tactic(auto, using(crate::proofs::PendingLaws::current_new))]
     pub(crate) fn rest(&mut self)
         ensures { self.new ≡ with_lists self.old (rested self.old.lists) }
     {
         if self.log.replica().stage() == Stage::Follower {
             self.acks.clear();
+            self.pending.clear();
             self.queue.clear();
         }
     }
@@ -127,6 +135,17 @@ impl Manager {
         Ok(stops(step))
     }
 
+    /// The log takes a step. Answered is what was done by what was learned.
+    fn learn(&mut self, step: ReplicaStep) -> Result<EffectList, NoMemory>
+        requires sound { self.old.sound ≡ true }
+        requires room { HasRoom (reach self.old.lists.acceptor) step.entry }
+        ensures lists { OnOk result (self.new ≡ with_lists self.old (stepped self.old.lists step)) }
+        ensures effects { IfOk result (λ effects.
+            effects ≡ effects_of (lease_rules_of self.old.config) self.old.lists.acceptor step.entry) }
+    {
+        self.log.take(step)
+    }
+
     /// It takes a step of the agreement: the entry, the messages and the acts of what was learned are added. Answered
     /// is what was done by what was learned.
     #[tactic(auto, unfolding(manager_spec::specs::Manager::agrees, node_spec::specs::Steps::onto, node_spec::specs::Steps::turned))]
@@ -139,7 +158,7 @@ impl Manager {
             effects ≡ effects_of (lease_rules_of self.old.config) self.old.lists.acceptor step.entry) }
     {
         spell(self.alloc, &self.cfg, out, &step)?;
-        let effects = self.log.take(step)?;
+        let effects = self.learn(step)?;
         add_acts(out, effects.as_slice())?;
         self.rest();
         Ok(effects)

@@ -1,13 +1,20 @@
-ghost use Rattle.std.specs.Prelude.{◌≡◌, ◌==◌, ◌&&◌, is_some, length, max, slice_index_or, slice_set, true, IfOk, OnOk};
+ghost use Rattle.std.specs.Prelude.{◌≡◌, ◌==◌, ◌&&◌, ℕ, List, false, is_some, length, max, slice_index_or, slice_set, true, IfOk, OnErr, OnOk};
+ghost use Rattle.std.specs.BTreeMap.{is_at};
+ghost use Rattle.std.specs.Ordering.{nat_cmp};
 ghost use Rattle.lease_spec.specs.Table.{row_at};
+ghost use Rattle.manager_core.specs.Pending.{IsCurrent};
 ghost use Rattle.manager_core.specs.Seen.{NumberedFrom, halved, with_lists};
+ghost use Rattle.manager_spec.specs.declared.marks.Marks.{Marks};
 ghost use Rattle.manager_spec.specs.Known.{hear_mux, marked, marks_at, no_peer, set_marks};
 ghost use Rattle.manager_spec.specs.Manager.{leases};
 ghost use Rattle.manager_spec.specs.Muxes.{hear_epoch, on_ack, on_hello, on_mux_refuse, programmed_by, unprogrammed_by};
+ghost use Rattle.paxos_spec.specs.Acceptor.{AcceptorState};
 ghost use Rattle.paxos_spec.specs.Leader.{is_primary};
+ghost use Rattle.wire_core.specs.declared.rules.LeaseRules.{LeaseRules};
 
 use crate::half::{Half, goes_on};
 use crate::manager::Manager;
+use crate::pending::{Pending, acknowledge};
 use manager_spec::{Marks, Peer};
 use std::collections::BTreeMap;
 use wire_core::{DropCause, NoMemory, Step};
@@ -37,6 +44,23 @@ fn hear(muxes: &mut Vec<Peer>, mux: u16, boot: u64, time: u64)
     }
 }
 
+/// The same. A mux in a later boot than the known one has no rows.
+fn hear_again(muxes: &mut Vec<Peer>, pending: &mut Pending, mux: u16, boot: u64, time: u64)
+    ensures set { muxes.new.items ≡ slice_set muxes.old.items mux
+        (record { mux = mux; boot = max (slice_index_or muxes.old.items mux no_peer).boot boot; heard_at = time }) }
+    ensures numbered { NumberedFrom 0 muxes.old.items → NumberedFrom 0 muxes.new.items }
+    ensures length { length muxes.new.items ≡ length muxes.old.items }
+    ensures current { (rules : LeaseRules) (a : AcceptorState) (acks : List (ℕ × Marks))
+        → NumberedFrom 0 muxes.old.items → IsCurrent pending.old rules a acks muxes.old.items
+        → IsCurrent pending.new rules a acks muxes.new.items }
+{
+    let known = boot_of(muxes.as_slice(), mux);
+    hear(muxes, mux, boot, time);
+    if boot > known {
+        pending.clear();
+    }
+}
+
 /// The mux acknowledged in this boot; the greatest boot counts.
 #[tactic(auto, using(crate::proofs::PeerLaws::set_past))]
 fn mark(boots: &mut [u64; 16], mux: u16, boot: u64)
@@ -58,9 +82,12 @@ pub fn marks_at(acks: &BTreeMap<u64, Marks>, n: u64) -> Marks
     }
 }
 
-/// Row n with these acknowledgements.
-fn set_marks(acks: &mut BTreeMap<u64, Marks>, n: u64, marks: Marks) -> Result<(), NoMemory>
-    ensures { OnOk result (acks.new.entries ≡ set_marks acks.old.entries n marks) }
+/// Row n with these acknowledgements. Without memory they stay as they were.
+pub fn set_marks(acks: &mut BTreeMap<u64, Marks>, n: u64, marks: Marks) -> Result<(), NoMemory>
+    ensures ok { OnOk result (acks.new.entries ≡ set_marks acks.old.entries n marks) }
+    ensures err { OnErr result (acks.new.entries ≡ acks.old.entries) }
+    ensures here { OnOk result (marks_at acks.new.entries n ≡ marks) }
+    ensures others { (m : ℕ) → is_at (nat_cmp n) m ≡ false → marks_at acks.new.entries m ≡ marks_at acks.old.entries m }
 {
     acks.insert(n, marks)?;
     Ok(())
@@ -81,7 +108,7 @@ impl Manager {
     fn hear_mux(&mut self, mux: u16, boot: u64)
         ensures { self.new ≡ with_lists self.old (hear_mux self.old.lists mux boot) }
     {
-        hear(&mut self.muxes, mux, boot, self.time);
+        hear_again(&mut self.muxes, &mut self.pending, mux, boot, self.time);
     }
 
     /// An epoch was heard of. One above its own ballot makes it step down.
@@ -118,6 +145,20 @@ impl Manager {
         Ok(goes_on(Step::new(self.alloc)))
     }
 
+    /// Row n has these acknowledgements.
+    fn acknowledge(&mut self, n: u64, marks: Marks) -> Result<(), NoMemory>
+        ensures { OnOk result (self.new ≡ with_lists self.old
+            (record self.old.lists { acks = set_marks self.old.lists.acks n marks })) }
+    {
+        acknowledge(
+            &mut self.acks,
+            &mut self.pending,
+            self.muxes.as_slice(),
+            n,
+            marks,
+        )
+    }
+
     /// Whether an acknowledgement of this epoch and row counts.
     fn is_ours(&self, epoch: u64, n: u64) -> bool
         requires { self.now.sound ≡ true }
@@ -146,7 +187,7 @@ impl Manager {
         }
         let mut marks = marks_at(&self.acks, n);
         mark(&mut marks.programmed, mux, boot);
-        set_marks(&mut self.acks, n, marks)?;
+        self.acknowledge(n, marks)?;
         self.hear_mux(mux, boot);
         Ok(goes_on(Step::new(self.alloc)))
     }
@@ -169,7 +210,7 @@ impl Manager {
         }
         let mut marks = marks_at(&self.acks, n);
         mark(&mut marks.unprogrammed, mux, boot);
-        set_marks(&mut self.acks, n, marks)?;
+        self.acknowledge(n, marks)?;
         self.hear_mux(mux, boot);
         Ok(goes_on(Step::new(self.alloc)))
     }

@@ -8,6 +8,7 @@ ghost use Rattle.wire_core.specs.Entries.{read_entry};
 
 use crate::log::LeaseLog;
 use crate::manager::Manager;
+use crate::pending::Pending;
 use crate::queue::Queue;
 use manager_spec::Peer;
 use std::alloc::Global;
@@ -94,6 +95,7 @@ impl Manager {
             index,
             log,
             acks: BTreeMap::new(alloc),
+            pending: Pending::new(alloc),
             queue: Queue::new(alloc),
             muxes,
             time: 0,

@@ -3,7 +3,7 @@ ghost use Rattle.std.specs.List.{flat_map};
 ghost use Rattle.lease_spec.specs.Table.{row_at};
 ghost use Rattle.manager_spec.specs.Known.{has_boot, running};
 ghost use Rattle.manager_spec.specs.Manager.{leases};
-ghost use Rattle.manager_spec.specs.Orders.{after_effects, denied, grant_of, known, order_of, orders, orders_of};
+ghost use Rattle.manager_spec.specs.Orders.{denied, grant_of, known, order_of, orders, orders_of};
 ghost use Rattle.manager_spec.specs.Orders.{program, program_new, unprogram};
 ghost use Rattle.node_spec.specs.Sends.{tell};
 ghost use Rattle.node_spec.specs.Steps.{outgoing, turned, with_sends};
@@ -13,12 +13,12 @@ ghost use Rattle.wire_core.specs.declared.node.NodeId.TheVariants.{Agent, Mux};
 ghost use Rattle.manager_core.specs.Seen.{with_lists};
 
 use crate::manager::Manager;
+use crate::pending::forget;
 use control_msg::Message;
-use manager_spec::{Marks, Peer};
+use manager_spec::Peer;
 use node_spec::say;
 use port_leases::{Effect, Phase, Row};
 use std::alloc::Global;
-use std::collections::BTreeMap;
 use vip_config::Config;
 use wire_core::{Ip4, NoMemory, NodeId, Step};
 
@@ -117,18 +117,6 @@ pub fn grant(row: &Row) -> Message<'static>
         n: row.n,
         vip: row.range.vip,
         start: row.range.start,
-    }
-}
-
-/// The acknowledgements of rows that left are forgotten: their numbers never come again.
-#[tactic(auto, unfolding(manager_spec::specs::Orders::after_effects))]
-fn forget(acks: &mut BTreeMap<u64, Marks>, effects: &[Effect])
-    ensures { acks.new.entries ≡ after_effects acks.old.entries effects.now }
-{
-    for effect in effects {
-        if let Effect::Freed { row } = effect {
-            acks.remove(&row.n);
-        }
     }
 }
 
@@ -276,7 +264,7 @@ impl Manager {
             (orders self.old.config effects.now self.old.lists)) }
     {
         self.say_orders(out, effects)?;
-        forget(&mut self.acks, effects);
+        forget(&mut self.acks, &mut self.pending, &self.log, effects);
         Ok(())
     }
 }

@@ -62,7 +62,7 @@ fn all_near_acked(cfg: &Config, time: u64, peers: &[Peer], boots: &[u64]) -> boo
 }
 
 /// Whether a boot of the mux is known.
-fn has_boot(peer: &Peer) -> bool
+pub fn has_boot(peer: &Peer) -> bool
     ensures { result ≡ has_boot peer.now }
 {
     peer.boot > 0

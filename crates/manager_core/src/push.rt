@@ -1,13 +1,16 @@
-ghost use Rattle.std.specs.Prelude.{◌≡◌, ◌-◌, ◌∷◌, [], filter, length, take, true, IfOk, OnOk};
+ghost use Rattle.std.specs.Prelude.{◌≡◌, ◌<◌, ◌≤◌, ◌-◌, ◌∷◌, [], filter, length, take, true, IfOk, IfSome, OnOk};
 ghost use Rattle.std.specs.List.{flat_map};
 ghost use Rattle.manager_core.specs.Seen.{sends_of};
 ghost use Rattle.manager_spec.specs.Known.{is_near};
+ghost use Rattle.manager_spec.specs.Manager.{leases};
 ghost use Rattle.manager_spec.specs.Orders.{push, push_one, push_row};
 ghost use Rattle.node_spec.specs.Steps.{outgoing, with_sends};
+ghost use Rattle.port_leases.specs.TableState.{onward_all, rows_above};
 
 use crate::manager::Manager;
 use crate::muxes::marks_at;
 use crate::orders::{program, unprogram};
+use crate::pending::look;
 use crate::proposal::{is_acked, is_near};
 use control_msg::Message;
 use manager_spec::{Marks, Peer};
@@ -142,7 +145,51 @@ impl Manager {
         )
     }
 
-    /// The push: over rows by number and muxes by number, the first 64 messages. Looks at the rows until it has them.
+    /// The rows that are new since the last push are looked at.
+    pub(crate) fn look(&mut self) -> Result<(), NoMemory>
+        requires { self.old.sound ≡ true }
+        ensures { OnOk result (self.new ≡ self.old) }
+    {
+        look(
+            &mut self.pending,
+            &self.log,
+            &self.acks,
+            self.muxes.as_slice(),
+        )
+    }
+
+    /// Of the rows with numbers above this one and up to the one that is answered no mux has to be told.
+    fn quiet_to(&self, above: u64) -> u64
+        requires { self.now.sound ≡ true }
+        ensures further { above ≤ result }
+        ensures quiet { flat_map (push_row self.now.config self.now.lists)
+            (rows_above (leases self.now.config self.now.lists).rows above)
+            ≡ flat_map (push_row self.now.config self.now.lists)
+            (rows_above (leases self.now.config self.now.lists).rows result) }
+    {
+        let seen = self.pending.quiet_to(above);
+        let Some(row) = self.log.next_in(Phase::Freeing, above) else {
+            return seen;
+        };
+        if row.n <= seen { row.n - 1 } else { seen }
+    }
+
+    /// The next row above this number of which a mux may have to be told.
+    #[tactic(auto, using(crate::proofs::QuietLaws::fewer_to_go))]
+    fn next_told(&self, above: u64) -> Option<Row>
+        requires { self.now.sound ≡ true }
+        ensures said { flat_map (push_row self.now.config self.now.lists)
+            (rows_above (leases self.now.config self.now.lists).rows above)
+            ≡ flat_map (push_row self.now.config self.now.lists)
+            (onward_all (leases self.now.config self.now.lists).rows result) }
+        ensures nearer { IfSome result (λ row. length (rows_above (leases self.now.config self.now.lists).rows row.n)
+            < length (rows_above (leases self.now.config self.now.lists).rows above)) }
+    {
+        self.log.next_row(self.quiet_to(above))
+    }
+
+    /// The push: over rows by number and muxes by number, the first 64 messages. Looks at the rows of which a mux may
+    /// have to be told, until it has them.
     #[tactic(auto, unfolding(manager_spec::specs::Orders::push), using(crate::proofs::TurnLaws::pushed_next, crate::proofs::TurnLaws::no_room, crate::proofs::TurnLaws::none_pushed, crate::proofs::ZeroLaws::all_above, crate::proofs::ZeroLaws::no_zero))]
     pub(crate) fn push(&self, out: &mut Step) -> Result<(), NoMemory>
         requires { self.now.sound ≡ true }
@@ -151,7 +198,7 @@ impl Manager {
     {
         let mut room = MOST_PUSHED;
         let mut above = 0;
-        while let Some(row) = self.log.next_row(above) {
+        while let Some(row) = self.next_told(above) {
             if room == 0 {
                 return Ok(());
             }
