@@ -1,7 +1,11 @@
 -- What a crash leaves while a node is opened, and why it isn't.
-use Rattle.std.proofs.Common.{◌≡◌, ◌⊎◌, inl, inr, ◌≤◌, ◌<◌, ◌^◌, ◌-◌, ◌==◌, ℕ, ◌+◌, Bool, true, false, List, Option, Some, None, Result, Ok, Err, sym, ap, ◌∙◌, subst, arith}
+use Rattle.std.proofs.Common.{◌≡◌, ◌⊎◌, inl, inr, ◌≤◌, ◌<◌, ◌^◌, ◌-◌, ◌==◌, ℕ, ◌+◌, Bool, true, false, List, [], ◌∷◌, ◌++◌, Option, Some, None, Result, Ok, Err, refl, sym, ap, ◌∙◌, subst, arith}
 use Rattle.std.specs.Prelude.{if◌then◌else◌, length}
+use Rattle.wire_core.specs.Entries.{IsEntry}
+use Rattle.wire_core.specs.declared.entry.Entry.{Entry}
+use Rattle.wire_core.specs.declared.entry.Entry.TheVariants.{Boot}
 use Rattle.wire_core.specs.declared.node.NodeId.{NodeId}
+use Rattle.vip_config.specs.declared.parts.ConfigParts.{ConfigParts}
 use Rattle.outside_io.specs.Disk.{History, LeavesOnly}
 use Rattle.journal.specs.Durable.{file_in}
 use Rattle.journal.specs.File.{bodies}
@@ -9,11 +13,11 @@ use Rattle.journal.specs.Journal.{OpenedAs, IsAsBefore, IsBeforeOrAfter, with_bo
 use Rattle.journal.proofs.Moments.{both}
 use Rattle.node_spec.specs.Bodies.{entries_of}
 use Rattle.node_spec.specs.Boots.{boot_of}
-use Rattle.node_disk.specs.Judging.{boot_entry, foreign_from, strange_from, judge, judge_by}
-use Rattle.node_disk.specs.Keeping.{KeepFails}
+use Rattle.node_disk.specs.Judging.{boot_entry, foreign_from, index_of, strange_from, judge, judge_by, role_of}
+use Rattle.node_disk.specs.Keeping.{IsKept, KeepFails, LeavesKept, ReadsKept, length_with}
 use Rattle.node_disk.specs.declared.fault.NodeFault.{NodeFault}
 use Rattle.node_disk.specs.declared.fault.NodeFault.TheVariants as fault
-use Rattle.node_core.specs.Opening.{OpeningLeaves, OpenFails, next_boot, next_entry}
+use Rattle.node_core.specs.Opening.{HasBodies, OpenFails, OpeningLeaves, OpensTo, OpensWith, next_boot, next_entry, with_boot}
 
 -- ---- the boot
 
@@ -66,6 +70,56 @@ then_started bound who (Some t) (Some u) new bs opened first second =
     (moved bound who t.now.bytes u.now.bytes (boot_entry who (next_boot bs)) (opened.0 ∙ sym opened.1)
     (ap (next_entry who) opened.0))
     first second
+
+-- ---- what is read
+
+length_more : (bs : List (List ℕ)) (b : List ℕ) → journal_length (bs ++ b ∷ []) ≡ journal_length bs + length b + 5
+length_more [] b = omega arith
+length_more (c ∷ bs) b = let more = length_more bs b in omega (arith, more)
+
+module _ (bound : ℕ) (who : NodeId) (bs : List (List ℕ)) where
+  had : (told mid : Option History) → OpenedAs bound told mid bs → HasBodies bound told bs
+  had None mid opened = tt
+  had (Some t) None opened = absurd opened
+  had (Some t) (Some u) opened = opened.0
+
+  opens : (told mid new : Option History) (body : List ℕ) → OpenedAs bound told mid bs
+      → ReadsKept bound (Some body) mid new → LeavesKept bound (Some body) mid new
+      → LeavesOnly mid new (IsKept bound (file_in mid) (Some body)) → OpensTo bound new (bs ++ body ∷ [])
+  opens None None None body opened reads kept only = record { reads = tt; leaves = tt }
+  opens None None (Some v) body opened reads kept only = absurd only
+  opens None (Some u) new body opened reads kept only = absurd opened
+  opens (Some t) None new body opened reads kept only = absurd opened
+  opens (Some t) (Some u) None body opened reads kept only = absurd only
+  opens (Some t) (Some u) (Some v) body opened reads kept only = record {
+    reads = reads ∙ ap (with_body body) opened.1;
+    leaves = λ c image. kept c image ∙ ap (with_body body) opened.1;
+  }
+
+  -- the node is what was read and the Boot entry make of it
+  pub opened_with : {C : Type 0} (cfg : ConfigParts) (told mid new : Option History)
+      (made : ConfigParts → NodeId → List Entry → C) (core : C) (start end : ℕ) (entry : Option (List ℕ))
+      → OpenedAs bound told mid bs → judge who bs ≡ Ok (next_boot bs)
+      → IsEntry (Boot 1 (role_of who) (index_of who) (next_boot bs))
+      → core ≡ made cfg who (entries_of (with_boot who bs)) → entry ≡ Some (boot_entry who (next_boot bs))
+      → ReadsKept bound entry mid new → LeavesKept bound entry mid new
+      → LeavesOnly mid new (IsKept bound (file_in mid) entry) → start ≡ journal_length bs
+      → end ≡ length_with start entry → OpensWith bound cfg who told new made core end
+  opened_with cfg told mid new made core start end entry opened judged allowed is boot reads kept only begun ends =
+      record {
+        read = bs;
+        had = had told mid opened;
+        judged = judged;
+        allowed = allowed;
+        made = is;
+        opens = opens told mid new (boot_entry who (next_boot bs)) opened
+            (subst (λ (e : Option (List ℕ)). ReadsKept bound e mid new) boot reads)
+            (subst (λ (e : Option (List ℕ)). LeavesKept bound e mid new) boot kept)
+            (subst (λ (e : Option (List ℕ)). LeavesOnly mid new (IsKept bound (file_in mid) e)) boot only);
+        length = ends ∙ ap (length_with start) boot
+            ∙ ap (λ (n : ℕ). n + length (boot_entry who (next_boot bs)) + 5) begun
+            ∙ sym (length_more bs (boot_entry who (next_boot bs)));
+      }
 
 -- ---- faults
 

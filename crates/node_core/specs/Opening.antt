@@ -11,11 +11,13 @@ use Rattle.journal.specs.Reading.{DamagedAs}
 use Rattle.journal.specs.declared.fault.Refused.{Refused}
 use Rattle.node_spec.specs.Bodies.{entries_of}
 use Rattle.node_spec.specs.Boots.{boot_of}
-use Rattle.node_disk.specs.Judging.{boot_entry, judge}
+use Rattle.node_disk.specs.Judging.{boot_entry, index_of, judge, role_of}
 use Rattle.node_disk.specs.declared.fault.NodeFault.{NodeFault}
 use Rattle.node_disk.specs.declared.fault.NodeFault.TheVariants as fault
 use Rattle.node_core.specs.declared.node.Node.{Node}
+use Rattle.wire_core.specs.Entries.{IsEntry}
 use Rattle.wire_core.specs.declared.entry.Entry.{Entry}
+use Rattle.wire_core.specs.declared.entry.Entry.TheVariants.{Boot}
 
 -- the boot of the next opening
 abbrev pub next_boot : List (List ℕ) → ℕ
@@ -60,6 +62,23 @@ second_after (Err e) = e.b
 abbrev pub HasBodies : ℕ → Option History → List (List ℕ) → Type 0
 HasBodies bound None bs = ⊤
 HasBodies bound (Some t) bs = bodies bound t.now.bytes ≡ Ok bs
+
+-- The file, where it is told, reads as these bodies, and so does what each crash now leaves of it.
+pub record OpensTo (bound : ℕ) (told : Option History) (bs : List (List ℕ)) : Type 0 where
+  pub reads : HasBodies bound told bs
+  pub leaves : LeavesBodies bound told bs
+
+-- The bodies that were read are this node's; the node is what they and the Boot entry make of it, and the file now
+-- opens to them with the Boot entry.
+pub record OpensWith {C : Type 0} (bound : ℕ) (cfg : ConfigParts) (who : NodeId) (old new : Option History)
+    (opened : ConfigParts → NodeId → List Entry → C) (core : C) (end : ℕ) : Type 0 where
+  pub read : List (List ℕ)
+  pub had : HasBodies bound old read
+  pub judged : judge who read ≡ Ok (next_boot read)
+  pub allowed : IsEntry (Boot 1 (role_of who) (index_of who) (next_boot read))
+  pub made : core ≡ opened cfg who (entries_of (with_boot who read))
+  pub opens : OpensTo bound new (with_boot who read)
+  pub length : end ≡ journal_length (with_boot who read)
 
 -- Why it isn't opened, by the file as it was: the form or an entry of another role, another node's entry, no boot left,
 -- no room for the Boot entry; or the disk's count rose, or there was no memory.

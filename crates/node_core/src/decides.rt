@@ -1,5 +1,5 @@
-ghost use Rattle.std.specs.Prelude.{◌≡◌, List, IfOk, IfSome};
-ghost use Rattle.node_spec.specs.Bodies.{IsSpelled, entries_of};
+ghost use Rattle.std.specs.Prelude.{◌≡◌, List, Option, IfOk, IfSome};
+ghost use Rattle.node_spec.specs.Bodies.{IsSpelled, Spells, entries_of};
 ghost use Rattle.node_spec.specs.Steps.{input_of};
 ghost use Rattle.node_spec.specs.Turns.{Input as Given};
 ghost use Rattle.vip_config.specs.declared.parts.ConfigParts.{ConfigParts};
@@ -22,6 +22,9 @@ pub trait Core: Drop {
     /// What an input makes of it, and its step.
     ghost step: { Self → Given → Self × Done };
 
+    /// The entry that an input makes it write.
+    ghost written: { Self → Given → Option Entry };
+
     /// The core as these bodies make it, each the spelling of an entry.
     fn recover(
         alloc: Global,
@@ -32,8 +35,9 @@ pub trait Core: Drop {
         requires { may_open cfg.now who }
         ensures { IfOk result (λ core. core ≡ opened cfg.now who (entries_of bodies.now)) };
 
-    /// One input. An entry of the step is spelled as an entry is.
+    /// One input. The entry of the step is spelled as an entry is.
     fn handle(&mut self, alloc: Global, input: &Input<'_>) -> Result<Step, NoMemory>
         ensures step { IfOk result (λ done. (self.new, done) ≡ step self.old (input_of input.now)) }
-        ensures spelled { IfOk result (λ done. IfSome done.entry IsSpelled) };
+        ensures spelled { IfOk result (λ done. IfSome done.entry IsSpelled) }
+        ensures written { IfOk result (λ done. Spells done.entry (written self.old (input_of input.now))) };
 }

@@ -2,12 +2,14 @@ ghost use Rattle.std.specs.Prelude.{◌≡◌, ◌≤◌, ◌-◌, ◌<◌, ◌+
 ghost use Rattle.outside_io.specs.Disk.{LeavesOnly};
 ghost use Rattle.journal.specs.Durable.{IsStill, file_in};
 ghost use Rattle.journal.specs.Journal.{journal_length};
-ghost use Rattle.node_spec.specs.Bodies.{IsSpelled, entries_of};
+ghost use Rattle.node_spec.specs.Bodies.{IsSpelled, Spells, entries_of};
 ghost use Rattle.node_spec.specs.Steps.{input_of};
-ghost use Rattle.node_disk.specs.Judging.{IsJudged, boot_entry, judge};
-ghost use Rattle.node_disk.specs.Keeping.{IsKept, LeavesKept, length_with};
+ghost use Rattle.node_disk.specs.Judging.{IsJudged, boot_entry, index_of, judge, role_of};
+ghost use Rattle.node_disk.specs.Keeping.{IsKept, LeavesKept, ReadsKept, length_with};
+ghost use Rattle.wire_core.specs.Entries.{IsEntry};
+ghost use Rattle.wire_core.specs.declared.entry.Entry.TheVariants.{Boot};
 ghost use Rattle.node_core.specs.Handling.{HandleFails, is_ready};
-ghost use Rattle.node_core.specs.Opening.{OpenFails, OpeningLeaves, OpensAs, first_after, next_boot, second_after, with_boot};
+ghost use Rattle.node_core.specs.Opening.{OpenFails, OpeningLeaves, OpensAs, OpensWith, first_after, next_boot, second_after, with_boot};
 ghost use Rattle.node_core.specs.Sending.{Handed};
 
 use crate::decides::Core;
@@ -25,6 +27,8 @@ pub const BOUND: u32 = 1_073_741_824;
 /// What a step did.
 #[derive(Debug, Drop)]
 pub struct Report {
+    /// What it made durable.
+    pub entry: Option<EntryBytes>,
     pub acts: ActList,
     pub notes: NoteList,
     /// How many datagrams the link took.
@@ -56,6 +60,7 @@ fn prepare<C: Core>(
     ensures core { IfOk result (λ x. x.0 ≡ C.opened cfg.now who (entries_of (with_boot who bodies))) }
     ensures entry { IfOk result (λ x. x.1 ≡ Some (boot_entry who (next_boot bodies))) }
     ensures spelled { IfOk result (λ x. IfSome x.1 IsSpelled) }
+    ensures allowed { OnOk result (IsEntry (Boot 1 (role_of who) (index_of who) (next_boot bodies))) }
     ensures fault { IfErr result (λ e. IsJudged e (judge who bodies)) }
 {
     let boot = judge(alloc, who, bodies.as_slice(), end)?;
@@ -82,6 +87,8 @@ impl<C: Core, D: Disk> Node<C, D> {
         ensures bound { IfOk result (λ node. node.journal.bound ≡ 1073741824) }
         ensures opened { IfOk result (λ node. OpensAs 1073741824 cfg.now who (D.history a)
             (D.history node.journal.first) C.opened node.core) }
+        ensures with { IfOk result (λ node. OpensWith 1073741824 cfg.now who (D.history a)
+            (D.history node.journal.first) C.opened node.core node.journal.length) }
         ensures still { IsStill (D.history a)
             → OpeningLeaves 1073741824 who (D.history a) (D.history a) (D.history (first_after result)) }
         ensures fault { IfErr result (λ e. OpenFails 1073741824 who (D.history a) (D.faults a) (D.faults e.a) e.fault) }
@@ -127,6 +134,13 @@ impl<C: Core, D: Disk> Node<C, D> {
         journal.into_disks()
     }
 
+    /// What decides in the node, as its last step left it.
+    pub fn core(&self) -> &C
+        ensures { result.now ≡ self.now.core }
+    {
+        &self.core
+    }
+
     /// Whether the node may be used: false exactly after a fault of [`Node::handle`].
     pub fn is_live(&self) -> bool
         ensures { result ≡ is_ready self.now }
@@ -140,9 +154,14 @@ impl<C: Core, D: Disk> Node<C, D> {
         requires live { is_ready self.old ≡ true }
         ensures live { OnOk result (is_ready self.new ≡ true) }
         ensures core { OnOk result (self.new.core ≡ (C.step self.old.core (input_of input.now)).0) }
+        ensures entry { IfOk result (λ r. r.entry ≡ (C.step self.old.core (input_of input.now)).1.entry) }
+        ensures written { IfOk result (λ r. Spells r.entry (C.written self.old.core (input_of input.now))) }
         ensures acts { IfOk result (λ r. r.acts ≡ (C.step self.old.core (input_of input.now)).1.acts) }
         ensures notes { IfOk result (λ r. r.notes ≡ (C.step self.old.core (input_of input.now)).1.notes) }
         ensures durable { OnOk result (LeavesKept self.old.journal.bound
+            (C.step self.old.core (input_of input.now)).1.entry
+            (D.history self.old.journal.first) (D.history self.new.journal.first)) }
+        ensures reads { OnOk result (ReadsKept self.old.journal.bound
             (C.step self.old.core (input_of input.now)).1.entry
             (D.history self.old.journal.first) (D.history self.new.journal.first)) }
         ensures length { OnOk result (self.new.journal.length
@@ -151,6 +170,7 @@ impl<C: Core, D: Disk> Node<C, D> {
             (C.step self.old.core (input_of input.now)).1.sends r.failed) }
         ensures counts { IfOk result (λ r. r.sent
             ≡ length (C.step self.old.core (input_of input.now)).1.sends - r.failed) }
+        ensures few { IfOk result (λ r. r.failed ≤ length (C.step self.old.core (input_of input.now)).1.sends) }
         ensures silent { OnErr result (link.new ≡ link.old) }
         ensures moments { LeavesOnly (D.history self.old.journal.first) (D.history self.new.journal.first)
             (IsKept self.old.journal.bound (file_in (D.history self.old.journal.first))
@@ -159,6 +179,7 @@ impl<C: Core, D: Disk> Node<C, D> {
         ensures fault { IfErr result (λ e. HandleFails self.old.journal.bound self.old.journal.length
             (D.faults self.old.journal.first) (D.faults self.new.journal.first)
             (C.step self.old.core (input_of input.now)).1.entry e) }
+        ensures later { D.faults self.old.journal.first ≤ D.faults self.new.journal.first }
         ensures answers { L.answers link.new ≡ L.answers link.old }
         ensures next_faults { L.next_faults link.new ≡ L.next_faults link.old }
         ensures second { self.new.journal.second ≡ self.old.journal.second }
@@ -177,6 +198,7 @@ impl<C: Core, D: Disk> Node<C, D> {
         let failed = send_all(link, sends);
         let sent = sends.len() as u64 - failed;
         Ok(Report {
+            entry: step.entry,
             acts: step.acts,
             notes: step.notes,
             sent,

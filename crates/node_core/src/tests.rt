@@ -66,6 +66,8 @@ impl Core for Counter {
       },
     ) };
 
+    ghost written = { λ c _. Some (entry.Epoch (c.number + 1)) };
+
     fn recover(
         _alloc: Global,
         cfg: &Config,

@@ -2,7 +2,7 @@
 use Rattle.std.specs.Prelude.{◌≡◌, ◌<◌, ℕ, ◌+◌, List, length, Option, Some, None, ⊤}
 use Rattle.outside_io.specs.Disk.{History}
 use Rattle.outside_io.specs.Faults.{Rose}
-use Rattle.journal.specs.Journal.{IsAsBefore, IsBeforeOrAfter, LeavesAdded}
+use Rattle.journal.specs.Journal.{Adds, IsAsBefore, IsBeforeOrAfter, LeavesAdded}
 use Rattle.journal.specs.declared.fault.JournalFault.{JournalFault}
 use Rattle.journal.specs.declared.fault.JournalFault.TheVariants as journal_fault
 use Rattle.node_disk.specs.declared.fault.NodeFault.{NodeFault}
@@ -17,6 +17,11 @@ IsKept bound before (Some body) file = IsBeforeOrAfter bound before body file
 abbrev pub LeavesKept : ℕ → Option (List ℕ) → Option History → Option History → Type 0
 LeavesKept bound None old new = new ≡ old
 LeavesKept bound (Some body) old new = LeavesAdded bound body old new
+
+-- the file reads as before, or as before with the entry of the step
+abbrev pub ReadsKept : ℕ → Option (List ℕ) → Option History → Option History → Type 0
+ReadsKept bound None old new = new ≡ old
+ReadsKept bound (Some body) old new = Adds bound body old new
 
 -- the journal's length with the entry of the step
 abbrev pub length_with : ℕ → Option (List ℕ) → ℕ

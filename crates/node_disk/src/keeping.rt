@@ -1,9 +1,9 @@
 ghost use Rattle.std.specs.Prelude.{◌≡◌, ◌≤◌, ◌+◌, true, length, OnOk, IfErr, IfSome};
 ghost use Rattle.outside_io.specs.Disk.{LeavesOnly};
 ghost use Rattle.journal.specs.Durable.{file_in};
-ghost use Rattle.journal.specs.Journal.{AppendFails, IsBeforeOrAfter, LeavesAdded};
+ghost use Rattle.journal.specs.Journal.{Adds, AppendFails, IsBeforeOrAfter, LeavesAdded};
 ghost use Rattle.node_spec.specs.Bodies.{IsSpelled};
-ghost use Rattle.node_disk.specs.Keeping.{IsKept, KeepFails, LeavesKept, length_with};
+ghost use Rattle.node_disk.specs.Keeping.{IsKept, KeepFails, LeavesKept, ReadsKept, length_with};
 
 use crate::fault::NodeFault;
 use journal::{Journal, JournalFault};
@@ -15,6 +15,8 @@ fn append<D: Disk>(journal: &mut Journal<D>, body: &[u8]) -> Result<(), JournalF
     requires live { journal.old.live ≡ true }
     requires spelled { IsSpelled body.now }
     ensures live { OnOk result (journal.new.live ≡ true) }
+    ensures reads { OnOk result (Adds journal.old.bound body.now
+        (D.history journal.old.first) (D.history journal.new.first)) }
     ensures kept { OnOk result (LeavesAdded journal.old.bound body.now
         (D.history journal.old.first) (D.history journal.new.first)) }
     ensures length { OnOk result (journal.new.length ≡ journal.old.length + length body.now + 5) }
@@ -35,6 +37,8 @@ pub fn keep<D: Disk>(journal: &mut Journal<D>, entry: &Option<EntryBytes>) -> Re
     requires live { journal.old.live ≡ true }
     requires spelled { IfSome entry.now IsSpelled }
     ensures live { OnOk result (journal.new.live ≡ true) }
+    ensures reads { OnOk result (ReadsKept journal.old.bound entry.now
+        (D.history journal.old.first) (D.history journal.new.first)) }
     ensures kept { OnOk result (LeavesKept journal.old.bound entry.now
         (D.history journal.old.first) (D.history journal.new.first)) }
     ensures length { OnOk result (journal.new.length ≡ length_with journal.old.length entry.now) }

@@ -1,6 +1,8 @@
-ghost use Rattle.std.specs.Prelude.{◌≡◌, ◌<◌, ◌^◌, IfOk};
+ghost use Rattle.std.specs.Prelude.{◌≡◌, ◌<◌, ◌^◌, IfOk, OnOk};
 ghost use Rattle.node_spec.specs.Bodies.{IsSpelled};
 ghost use Rattle.node_disk.specs.Judging.{boot_entry, index_of, role_of};
+ghost use Rattle.wire_core.specs.Entries.{IsEntry};
+ghost use Rattle.wire_core.specs.declared.entry.Entry.TheVariants.{Boot};
 
 use std::alloc::Global;
 use wire_core::{Entry, EntryBytes, NoMemory, NodeId};
@@ -33,6 +35,7 @@ pub fn index_of(who: NodeId) -> u16
 pub fn boot_bytes(alloc: Global, who: NodeId, boot: u64) -> Result<EntryBytes, NoMemory>
     ensures bytes { IfOk result (λ bytes. bytes ≡ boot_entry who boot) }
     ensures spelled { IfOk result IsSpelled }
+    ensures allowed { OnOk result (IsEntry (Boot 1 (role_of who) (index_of who) boot)) }
 {
     let entry = Entry::Boot {
         version: 1,

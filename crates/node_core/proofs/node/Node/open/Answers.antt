@@ -1,11 +1,11 @@
-use Rattle.std.proofs.Common.{rules, ◌≡◌, Some, sym, subst}
+use Rattle.std.proofs.Common.{rules, ◌≡◌, Ok, Some, sym, subst}
 use Rattle.outside_io.specs.Disk.{LeavesOnly}
 use Rattle.journal.specs.Durable.{IsStill, file_in}
 use Rattle.journal.specs.Journal.{OpenedAs, IsAsBefore, journal_length}
-use Rattle.node_disk.specs.Judging.{boot_entry}
-use Rattle.node_disk.specs.Keeping.{IsKept, KeepFails}
-use Rattle.node_core.specs.Opening.{OpeningLeaves, OpenFails, next_boot}
-use Rattle.node_core.proofs.Opens.{then_started, not_kept}
+use Rattle.node_disk.specs.Judging.{boot_entry, judge}
+use Rattle.node_disk.specs.Keeping.{IsKept, KeepFails, LeavesKept, ReadsKept, length_with}
+use Rattle.node_core.specs.Opening.{OpeningLeaves, OpenFails, next_boot, with_boot}
+use Rattle.node_core.proofs.Opens.{not_kept, opened_with, then_started}
 use Rattle.node_core.proofs.node.Node.open.Goals as goal
 
 pub returns-in-Ok-keep-clause-still : goal.returns-in-Ok-keep-clause-still
@@ -57,3 +57,11 @@ returns-in-Err-keep-clause-fault g c =
     (g.D.Disk.history c.in-Ok.opened.0.first) c.in-Ok.opened.1 c.in-Err-keep.fault (search rules) opened length
     (subst (λ e. KeepFails 1073741824 c.in-Ok.opened.0.length (g.D.Disk.faults c.in-Ok.opened.0.first)
     (g.D.Disk.faults c.keep.new.journal.first) e c.in-Err-keep.fault) entry fails))
+
+pub returns-in-Ok-keep-clause-with : goal.returns-in-Ok-keep-clause-with
+returns-in-Ok-keep-clause-with g c =
+    opened_with 1073741824 c.args.who c.in-Ok.opened.1 c.args.cfg.now (g.D.Disk.history c.args.a)
+    (g.D.Disk.history c.in-Ok.opened.0.first) (g.D.Disk.history c.keep.new.journal.first) g.C.Core.opened
+    c.in-Ok-prepare.prepared.0 c.in-Ok.opened.0.length c.keep.new.journal.length c.in-Ok-prepare.prepared.1
+    (search rules) (search rules) (search rules) (search rules) (search rules) (search rules) (search rules)
+    (search rules) (search rules) (search rules)
