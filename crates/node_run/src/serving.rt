@@ -1,7 +1,12 @@
-ghost use Rattle.std.specs.Prelude.{◌≡◌, ◌≤◌, ◌⊎◌, Err, true, length, IfOk, OnOk, IfErr};
+ghost use Rattle.std.specs.Prelude.{◌≡◌, ◌≤◌, ◌+◌, ◌-◌, ◌^◌, min, Ok, Err, true, length, IfErr, IfOk, OnErr, OnOk};
 ghost use Rattle.outside_io.specs.Faults.{Rose};
+ghost use Rattle.node_spec.specs.Steps.{input_of};
 ghost use Rattle.node_core.specs.Handling.{is_ready};
-ghost use Rattle.node_run.specs.declared.serving.ServeFault.TheVariants.{Link};
+ghost use Rattle.node_run.specs.Going.{GoesOn, Handled, NotHandled, StopsAt};
+ghost use Rattle.node_run.specs.Serving.{Serves, Stops, Taken, state_of};
+ghost use Rattle.node_run.specs.Turns.{drops_in, is_drop};
+ghost use Rattle.node_run.specs.declared.serving.ServeFault.TheVariants.{Link, Node as of_node};
+ghost use Rattle.node_disk.specs.declared.fault.NodeFault.TheVariants.{Disk};
 
 use crate::timer::Timer;
 use node_core::{Core, Node, Report};
@@ -10,7 +15,7 @@ use outside_io::{Clock, Disk, Link, MAX_DATAGRAM};
 use std::alloc::Global;
 use wire_core::{Input, NoMemory, Note};
 
-/// What was served.
+/// What was served. A count stands still at its greatest value.
 #[derive(Clone, Copy, Debug, PartialEq, Eq)]
 pub struct Served {
     /// How many turns were taken.
@@ -32,59 +37,133 @@ pub enum ServeFault {
     Link,
 }
 
-// How many drops are among the notes.
-fn drops(notes: &[Note]) -> u64 {
-    let mut count = 0u64;
-    for note in notes {
-        if let Note::Dropped { .. } = note {
-            count = count.saturating_add(1);
-        }
+fn is_drop(note: &Note) -> bool
+    ensures { result ≡ is_drop note.now }
+{
+    match note {
+        Note::Dropped { .. } => true,
+        Note::Queued { .. } => false,
     }
-    count
 }
 
+// How many drops are among the notes.
+fn drops(notes: &[Note]) -> u64
+    ensures { result ≡ drops_in notes.now }
+{
+    notes.iter().filter(|note| is_drop(note)).count() as u64
+}
+
+// What was served, with a step more.
+fn counted(served: Served, report: &Report) -> Served
+    ensures turns { result.turns ≡ served.turns }
+    ensures sent { result.sent ≡ min (served.sent + report.now.sent) (2 ^ 64 - 1) }
+    ensures failed { result.failed ≡ min (served.failed + report.now.failed) (2 ^ 64 - 1) }
+    ensures dropped { result.dropped ≡ min (served.dropped + drops_in report.now.notes) (2 ^ 64 - 1) }
+{
+    Served {
+        turns: served.turns,
+        sent: served.sent.saturating_add(report.sent),
+        dropped: served
+            .dropped
+            .saturating_add(drops(report.notes.as_slice())),
+        failed: served.failed.saturating_add(report.failed),
+    }
+}
+
+// One input.
 fn step<C: Core, D: Disk, L: Link>(
     node: &mut Node<C, D>,
     link: &mut L,
     input: &Input<'_>,
-) -> Result<Report, ServeFault>
+    served: &mut Served,
+) -> Result<(), ServeFault>
     requires live { is_ready node.old ≡ true }
     ensures live { OnOk result (is_ready node.new ≡ true) }
+    ensures done { OnOk result (Handled node.old.journal.bound (C.step node.old.core (input_of input.now))
+        (L.sent link.old) (L.sent link.new) (state_of D.history node.old) (state_of D.history node.new)
+        served.old served.new) }
+    ensures not_done { IfErr result (λ e. NotHandled node.old.journal.bound (C.step node.old.core (input_of input.now))
+        (L.sent link.old) (L.sent link.new) (state_of D.history node.old) (state_of D.history node.new) e) }
+    ensures turns { served.new.turns ≡ served.old.turns }
     ensures link { result ≡ Err Link → Rose (L.next_faults link.old) (L.next_faults link.new) }
+    ensures disk { result ≡ Err (of_node Disk)
+        → Rose (D.faults node.old.journal.first) (D.faults node.new.journal.first) }
+    ensures faults { D.faults node.old.journal.first ≤ D.faults node.new.journal.first }
+    ensures answers { L.answers link.new ≡ L.answers link.old }
     ensures next_faults { L.next_faults link.new ≡ L.next_faults link.old }
+    ensures second { node.new.journal.second ≡ node.old.journal.second }
+    ensures bound { node.new.journal.bound ≡ node.old.journal.bound }
 {
     match node.handle(input, link) {
-        Ok(report) => Ok(report),
+        Ok(report) => {
+            *served = counted(*served, &report);
+            Ok(())
+        }
         Err(fault) => Err(ServeFault::Node(fault)),
     }
 }
 
-// One turn: a tick where it is due, else what came. None where nothing came.
+// One turn: a tick where it is due, else what came.
 fn turn<C: Core, D: Disk, L: Link, K: Clock>(
     node: &mut Node<C, D>,
     link: &mut L,
     clock: &mut K,
     timer: &mut Timer,
+    served: &mut Served,
     buf: &mut [u8],
-) -> Result<Option<Report>, ServeFault>
+) -> Result<(), ServeFault>
     requires live { is_ready node.old ≡ true }
     requires room { length buf.old ≡ 65507 }
     ensures live { OnOk result (is_ready node.new ≡ true) }
+    ensures goes_on { OnOk result (GoesOn C.step node.old.journal.bound
+        (record {
+          times = K.times clock.old;
+          answers = L.answers link.old;
+          sent = L.sent link.old;
+          state = state_of D.history node.old;
+        }) timer.old served.old
+        (record {
+          times = K.times clock.new;
+          answers = L.answers link.new;
+          sent = L.sent link.new;
+          state = state_of D.history node.new;
+        }) timer.new served.new) }
+    ensures stops { IfErr result (λ e. StopsAt C.step node.old.journal.bound
+        (record {
+          times = K.times clock.old;
+          answers = L.answers link.old;
+          sent = L.sent link.old;
+          state = state_of D.history node.old;
+        }) timer.old served.old
+        (record {
+          times = K.times clock.new;
+          answers = L.answers link.new;
+          sent = L.sent link.new;
+          state = state_of D.history node.new;
+        }) e) }
+    ensures turns { served.new.turns ≡ served.old.turns }
+    ensures taken { Taken 1 (K.times clock.old) (K.times clock.new) }
     ensures link { result ≡ Err Link → Rose (L.next_faults link.old) (L.next_faults link.new) }
     ensures later { L.next_faults link.old ≤ L.next_faults link.new }
+    ensures disk { result ≡ Err (of_node Disk)
+        → Rose (D.faults node.old.journal.first) (D.faults node.new.journal.first) }
+    ensures faults { D.faults node.old.journal.first ≤ D.faults node.new.journal.first }
+    ensures second { node.new.journal.second ≡ node.old.journal.second }
+    ensures bound { node.new.journal.bound ≡ node.old.journal.bound }
     ensures room { length buf.new ≡ 65507 }
 {
-    if timer.is_due(clock.now()) {
+    let due = timer.is_due(clock.now());
+    if due {
         let now = timer.time();
-        return Ok(Some(step(node, link, &Input::Tick { now })?));
+        return step(node, link, &Input::Tick { now }, served);
     }
     match link.next(buf) {
         Err(_) => Err(ServeFault::Link),
-        Ok(None) => Ok(None),
+        Ok(None) => Ok(()),
         Ok(Some(arrival)) => {
             let bytes = &buf[..arrival.len];
             let from = arrival.from;
-            Ok(Some(step(node, link, &Input::Datagram { from, bytes })?))
+            step(node, link, &Input::Datagram { from, bytes }, served)
         }
     }
 }
@@ -95,26 +174,12 @@ fn room(alloc: Global) -> Result<Vec<u8>, NoMemory>
     vec![in alloc; 0u8; MAX_DATAGRAM]
 }
 
-// What was served, with one turn more.
-fn counted(served: Served, report: Option<Report>) -> Served
-    ensures { result.turns ≡ served.turns }
-{
-    match report {
-        None => served,
-        Some(report) => Served {
-            turns: served.turns,
-            sent: served.sent.saturating_add(report.sent),
-            dropped: served
-                .dropped
-                .saturating_add(drops(report.notes.as_slice())),
-            failed: served.failed.saturating_add(report.failed),
-        },
-    }
-}
-
 /// Serves exactly so many turns. In each the clock is read; where this is the first turn or 100 milliseconds have
 /// passed since the last tick, the turn is a tick; else it is one `next`, and what arrives is handled. The room for
 /// what arrives is taken first.
+///
+/// What was sent and what the disk has is exactly the fold of the core's steps over what the clock and the link told.
+/// After a fault it is that of a front: all turns but the last one, of which nothing was sent.
 pub fn serve<C: Core, D: Disk, L: Link, K: Clock>(
     alloc: Global,
     node: &mut Node<C, D>,
@@ -125,8 +190,39 @@ pub fn serve<C: Core, D: Disk, L: Link, K: Clock>(
     requires live { is_ready node.old ≡ true }
     ensures live { OnOk result (is_ready node.new ≡ true) }
     ensures turns { IfOk result (λ served. served.turns ≡ turns) }
+    ensures taken { OnOk result (Taken turns (K.times clock.old) (K.times clock.new)) }
+    ensures served { IfOk result (λ served. Serves C.step node.old.journal.bound
+        (record {
+          times = K.times clock.old;
+          answers = L.answers link.old;
+          sent = L.sent link.old;
+          state = state_of D.history node.old;
+        })
+        (record {
+          times = K.times clock.new;
+          answers = L.answers link.new;
+          sent = L.sent link.new;
+          state = state_of D.history node.new;
+        }) served) }
+    ensures stops { IfErr result (λ e. Stops C.step node.old.journal.bound
+        (record {
+          times = K.times clock.old;
+          answers = L.answers link.old;
+          sent = L.sent link.old;
+          state = state_of D.history node.old;
+        })
+        (record {
+          times = K.times clock.new;
+          answers = L.answers link.new;
+          sent = L.sent link.new;
+          state = state_of D.history node.new;
+        }) e) }
     ensures link { result ≡ Err Link → Rose (L.next_faults link.old) (L.next_faults link.new) }
     ensures later { L.next_faults link.old ≤ L.next_faults link.new }
+    ensures disk { result ≡ Err (of_node Disk)
+        → Rose (D.faults node.old.journal.first) (D.faults node.new.journal.first) }
+    ensures faults { D.faults node.old.journal.first ≤ D.faults node.new.journal.first }
+    ensures second { node.new.journal.second ≡ node.old.journal.second }
 {
     let mut buf = match room(alloc) {
         Ok(buf) => buf,
@@ -140,8 +236,7 @@ pub fn serve<C: Core, D: Disk, L: Link, K: Clock>(
         failed: 0,
     };
     for _ in 0..turns {
-        let report = turn(node, link, clock, &mut timer, &mut buf)?;
-        served = counted(served, report);
+        turn(node, link, clock, &mut timer, &mut served, &mut buf)?;
     }
     Ok(served)
 }

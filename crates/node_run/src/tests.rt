@@ -25,7 +25,7 @@ const SMALL: &str =
 "high":65535,"snat":["10.1.0.4"],"endpoints":[]}],"limit":16,"timers":{"lead_silent":1000,"mux_silent":5000,
 "ask_retry":500,"flow_idle":60000,"range_idle":30000}}"#;
 
-fn small(alloc: Global) -> Result<Config, AllocError> {
+pub fn small(alloc: Global) -> Result<Config, AllocError> {
     match Config::read(alloc, SMALL.as_bytes()) {
         Ok(config) => Ok(config),
         Err(_) => Err(AllocError),
@@ -34,7 +34,7 @@ fn small(alloc: Global) -> Result<Config, AllocError> {
 
 // A core that drops whatever comes, and sends an empty datagram to the router each time.
 #[derive(Drop)]
-struct Dropper {
+pub struct Dropper {
     router: Socket,
 }
 
@@ -52,6 +52,8 @@ impl Core for Dropper {
         sends = record { to = c.router; bytes = [] } ∷ [];
       },
     ) };
+
+    ghost written = { λ _ _. None };
 
     fn recover(
         _alloc: Global,
