@@ -1,0 +1,12 @@
+pub mod Places
+pub mod Lists
+pub mod Spreads
+pub mod Settles
+pub mod ShownSites
+pub mod ShownSends
+pub mod ShownWorlds
+pub mod There
+pub mod ShownFirsts
+pub mod Standing
+pub mod Replays
+pub mod Firsts
