@@ -1,7 +1,6 @@
 -- Each turn of a manager is one good step of the agreement.
-use Rattle.std.proofs.Common.{◌≡◌, refl, ℕ, true, false, Bool, List, [], ◌∷◌, ◌++◌, Option, Some, None, sym, ap, ◌∙◌, subst, append-nil, arith}
+use Rattle.std.proofs.Common.{◌≡◌, refl, ℕ, true, false, Bool, [], ◌∷◌, ◌++◌, Option, Some, None, sym, ap, ◌∙◌, subst, append-nil}
 use Rattle.std.specs.Prelude.{length, if◌then◌else◌, ◌==◌, ◌&&◌, not, nat_lt, nat_le, ◌-◌, max, Contains}
-use Rattle.std.specs.List.{flat_map}
 use Rattle.wire_core.specs.Steps.{first_of}
 use Rattle.wire_core.specs.declared.entry.Entry.{Entry}
 use Rattle.wire_core.specs.declared.node.NodeId.{NodeId}
@@ -9,17 +8,16 @@ use Rattle.wire_core.specs.declared.node.NodeId.TheVariants.{Replica, Mux, Agent
 use Rattle.control_msg.specs.declared.message.Message.{Message}
 use Rattle.control_msg.specs.declared.message.Message.TheVariants as message
 use Rattle.vip_config.specs.declared.parts.ConfigParts.{ConfigParts}
-use Rattle.vip_config.specs.Leases.{lease_rules_of}
 use Rattle.paxos_spec.specs.declared.mail.Body.{Body}
 use Rattle.paxos_spec.specs.declared.mail.Body.TheVariants as body
 use Rattle.paxos_spec.specs.declared.stage.Stage.{Stage}
 use Rattle.paxos_spec.specs.declared.stage.Stage.TheVariants.{Primary, Follower, Candidate, Catching, Inheriting}
 use Rattle.paxos_spec.specs.Votes.{Value}
 use Rattle.paxos_spec.specs.Acceptor.{AcceptorState, reach, kept}
-use Rattle.paxos_spec.specs.Leader.{LeaderState, is_primary, is_follower, value_out}
-use Rattle.paxos_spec.specs.Replica.{Memory, Out, quiet, mail, down, accept_of, on_message, on_campaign, on_offer}
+use Rattle.paxos_spec.specs.Leader.{is_primary, is_follower, value_out}
+use Rattle.paxos_spec.specs.Replica.{Memory, Out, quiet, mail, down, accept_of, on_message, on_offer}
 use Rattle.paxos_spec.specs.Agreement.{Disk, View, grown}
-use Rattle.paxos_laws.specs.Steps.{GoodOut, Here, Moves, followed_by}
+use Rattle.paxos_laws.specs.Steps.{GoodOut, Moves}
 use Rattle.paxos_laws.proofs.Named as paxos
 use Rattle.node_spec.specs.Datagrams.{heard, Heard, Refused, Told, Brought, by_heard}
 use Rattle.node_spec.specs.Turns.{Input, Turn, Arrived, Ticked, also, drop_turn}
@@ -35,9 +33,9 @@ use Rattle.manager_spec.proofs.Mails.{mails_append}
 use Rattle.manager_spec.specs.Agreement.{IsStep, body_in, replica_step, message_step, mux_memory, tick_step, proposal_step, proposed, mails_in}
 use Rattle.manager_spec.specs.Known.{peer}
 use Rattle.manager_spec.specs.Leading.{led, with_seen}
-use Rattle.manager_spec.specs.Manager.{Manager, act_of, effects_of}
+use Rattle.manager_spec.specs.Manager.{Manager, effects_of}
 use Rattle.manager_spec.specs.Muxes.{see_epoch}
-use Rattle.world_laws.specs.Turns.{IsAt, Stands, GoodTurn, IsGood, IsTrue, WasSaid, TurnsAreGood, out_of}
+use Rattle.world_laws.specs.Turns.{IsAt, Stands, GoodTurn, IsTrue, WasSaid, TurnsAreGood, out_of}
 
 pub by_if : {X : Type 0} (P : X → Type 0) (b : Bool) {x y : X} → (b ≡ true → P x) → (b ≡ false → P y) → P (if b then x else y)
 by_if P true f g = f refl
@@ -233,9 +231,9 @@ state_grown d None = refl
 state_grown d (Some e) = refl
 
 -- the lists after a row are what the view has then
-still_at : (cfg : ConfigParts) (w v : View) (i : ℕ) (m : Manager) (t : Turn Manager) → IsAt w i m → GoodTurn cfg None w i m t
-    → Moves w v i (out_of m t) → IsAt v i t.state
-still_at cfg w v i m t at good moves = record {
+pub still_at : (cfg : ConfigParts) (f : Option Value) (w v : View) (i : ℕ) (m : Manager) (t : Turn Manager) → IsAt w i m
+    → GoodTurn cfg f w i m t → Moves w v i (out_of m t) → IsAt v i t.state
+still_at cfg f w v i m t at good moves = record {
   index = good.index;
   acceptor = good.acceptor ∙ ap (λ (a : AcceptorState). kept a t.entry) at.acceptor ∙ sym (state_grown (w.disk i) t.entry)
       ∙ ap (λ (d : Disk). d.state) (sym moves.disk_same);
@@ -261,7 +259,7 @@ proposed_good cfg w i m t s good same =
           (paxos.both (offer cfg n) w i (out_of m t) (out_of n p) s.here left.entry
           (paxos.not_offered (offer cfg n) w i (out_of m t) good.good)
           (λ v here moves. subst (GoodOut (offer cfg n) v i) (sym out)
-          (offer_good cfg v i n (record { here = here; at = still_at cfg w v i m t s.at good moves }))));
+          (offer_good cfg v i n (record { here = here; at = still_at cfg None w v i m t s.at good moves }))));
     }
 
 offer_is : (cfg : ConfigParts) (n : Manager) (x : Value) → offer cfg n ≡ Some x → x ≡ proposed cfg n

@@ -1,2 +1,11 @@
 pub mod Seen
 pub mod Turns
+pub mod Widths
+pub mod Sayings
+pub mod Hearing
+pub mod Log
+pub mod Living
+pub mod Reasons
+pub mod Grants
+pub mod Agents
+pub mod Safety

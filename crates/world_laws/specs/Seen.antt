@@ -1,5 +1,5 @@
 -- What the agreement of the log sees of a world: the disks and memories of the replicas, and their messages.
-use Rattle.std.specs.Prelude.{ℕ, List, [], Option, Some, None}
+use Rattle.std.specs.Prelude.{List, [], Option, Some, None}
 use Rattle.std.specs.List.{flat_map}
 use Rattle.wire_core.specs.declared.node.NodeId.{NodeId}
 use Rattle.wire_core.specs.declared.node.NodeId.TheVariants.{Replica, Mux, Agent}

@@ -1,12 +1,10 @@
 -- What a turn of a replica is to the agreement: one step that shows what it owes.
-use Rattle.std.specs.Prelude.{◌≡◌, ◌<◌, ℕ, length, List, Contains, Option, Some, None, All}
+use Rattle.std.specs.Prelude.{◌≡◌, ℕ, Contains, Option, Some}
 use Rattle.std.specs.List.{flat_map}
 use Rattle.wire_core.specs.declared.node.NodeId.TheVariants.{Replica}
-use Rattle.control_msg.specs.declared.message.Message.{Message}
 use Rattle.vip_config.specs.declared.parts.ConfigParts.{ConfigParts}
 use Rattle.vip_config.specs.Leases.{lease_rules_of}
 use Rattle.paxos_spec.specs.declared.mail.Body.{Body}
-use Rattle.paxos_spec.specs.declared.mail.Mail.{Mail}
 use Rattle.paxos_spec.specs.Votes.{Value}
 use Rattle.paxos_spec.specs.Acceptor.{kept}
 use Rattle.paxos_spec.specs.Replica.{Out, mail}

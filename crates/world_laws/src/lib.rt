@@ -3,4 +3,6 @@
 
 mod laws;
 
-pub use laws::turns;
+pub use laws::{
+    agents, agreement, each_event, grants, hearing, lives, reasons, safety, sayings, turns,
+};

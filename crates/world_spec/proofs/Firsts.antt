@@ -44,11 +44,11 @@ none cfg = tt
 
 keeps : (cfg : ConfigParts) → Keeps cfg P NoEntry NoLists
 keeps cfg = record {
-  said_lasts = λ x w u g s h. g.there s.from ∙ h;
-  kept_lasts = λ x w u g y e h. tt;
-  lists_last = λ x w u g y ne l h. tt;
-  lists_rest = λ x w u g same sent l h. tt;
-  opening = λ w u x s h g d. (tt, tt);
+  said_lasts = λ x w u z g s h. g.there s.from ∙ h;
+  kept_lasts = λ x w u z g y e h. tt;
+  lists_last = λ x w u z g y ne l h. tt;
+  lists_rest = λ x w u z g same sent l h. tt;
+  opening = λ w u x s h g d n. (tt, tt);
   turn = λ w u x l i s h g was given m. (
     each_on (λ d. d.from ≡ x) (P u) (λ d e. ap (is_there u) e ∙ g.there x ∙ up_is_there w x l was) _ m.own,
     each_unit _,

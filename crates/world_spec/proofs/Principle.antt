@@ -37,24 +37,24 @@ grows_of w u x es ss up m = record {
 -- what was, still holds; the new items and the lists of x are to be shown
 step : (cfg : ConfigParts) (P : World → Sent → Type 0) (E : World → NodeId → Entry → Type 0)
     (Q : World → NodeId → Lists → Type 0) → Keeps cfg P E Q
-    → (w u : World) (x : NodeId) (es : List Entry) (ss : List Sent) (up : Option Lists) → Holds P E Q w
+    → (w u : World) (x : NodeId) (es : List Entry) (ss : List Sent) (up : Option Lists) → Steps cfg w u → Holds P E Q w
     → Moves w u x es ss up → Each (P u) ss → Each (E u x) es → ((l : Lists) → up ≡ Some l → Q u x l) → Holds P E Q u
-step cfg P E Q k w u x es ss up h m p e q =
+step cfg P E Q k w u x es ss up s h m p e q =
     let g : Grows x w u = grows_of w u x es ss up m in
     record {
       said = subst (Each (P u)) (sym m.sent)
-          (each_append (P u) w.sent ss (each_on (P w) (P u) (k.said_lasts x w u g) w.sent h.said) p);
+          (each_append (P u) w.sent ss (each_on (P w) (P u) (k.said_lasts x w u s g) w.sent h.said) p);
       kept = λ y. elim (node_or y x) [
         | inl is ↦ subst (λ (z : NodeId). Each (E u z) (disk u z)) (sym is)
             (subst (Each (E u x)) (sym m.disk_here)
             (each_append (E u x) (disk w x) es
-            (each_on (E w x) (E u x) (k.kept_lasts x w u g x) (disk w x) (h.kept x)) e))
+            (each_on (E w x) (E u x) (k.kept_lasts x w u s g x) (disk w x) (h.kept x)) e))
         | inr ne ↦ subst (Each (E u y)) (sym (m.disk_other y ne))
-            (each_on (E w y) (E u y) (k.kept_lasts x w u g y) (disk w y) (h.kept y))
+            (each_on (E w y) (E u y) (k.kept_lasts x w u s g y) (disk w y) (h.kept y))
       ];
       lists = λ y l is. elim (node_or y x) [
         | inl same ↦ subst (λ (z : NodeId). Q u z l) (sym same) (q l (sym m.at_here ∙ ap (at u) (sym same) ∙ is))
-        | inr ne ↦ k.lists_last x w u g y ne l (h.lists y l (sym (m.at_other y ne) ∙ is))
+        | inr ne ↦ k.lists_last x w u s g y ne l (h.lists y l (sym (m.at_other y ne) ∙ is))
       ];
     }
 
@@ -67,24 +67,24 @@ keeps_it : (cfg : ConfigParts) (P : World → Sent → Type 0) (E : World → No
     → (w : World) (r : Outcome) → Steps cfg w r.0 → Holds P E Q w → Shape cfg w r → Holds P E Q r.0
 keeps_it cfg P E Q k w r s h (IsQuiet x m acts) =
     let u : World = r.0 in
-    step cfg P E Q k w u x [] [] _ h m tt tt
-    (λ l is. k.lists_rest x w u (grows_of w u x [] [] _ m) (m.disk_here ∙ append-nil _) (m.sent ∙ append-nil _) l (h.lists x l is))
-keeps_it cfg P E Q k w r s h (IsCrash x m acts) = step cfg P E Q k w r.0 x [] [] None h m tt tt (λ l is. absurd (cc))
+    step cfg P E Q k w u x [] [] _ s h m tt tt
+    (λ l is. k.lists_rest x w u s (grows_of w u x [] [] _ m) (m.disk_here ∙ append-nil _) (m.sent ∙ append-nil _) l (h.lists x l is))
+keeps_it cfg P E Q k w r s h (IsCrash x m acts) = step cfg P E Q k w r.0 x [] [] None s h m tt tt (λ l is. absurd (cc))
 keeps_it cfg P E Q k w r s h (IsTurn x l i was given m acts) =
     let u : World = r.0 in
     let new = k.turn w u x l i s h (grows_of w u x _ _ _ m) was given m in
-    step cfg P E Q k w u x _ _ _ h m new.0 new.1 (λ z is. subst (Q u x) (some_is _ z is) new.2)
+    step cfg P E Q k w u x _ _ _ s h m new.0 new.1 (λ z is. subst (Q u x) (some_is _ z is) new.2)
 keeps_it cfg P E Q k w r s h (IsCut x l i was given m acts) =
     let u : World = r.0 in
-    step cfg P E Q k w u x _ [] None h m tt (k.cut w u x l i s h (grows_of w u x _ _ _ m) was given m) (λ z is. absurd (cc))
+    step cfg P E Q k w u x _ [] None s h m tt (k.cut w u x l i s h (grows_of w u x _ _ _ m) was given m) (λ z is. absurd (cc))
 keeps_it cfg P E Q k w r s h (IsOpening x there m acts) =
     let u : World = r.0 in
-    let new = k.opening w u x s h (grows_of w u x _ _ _ m) m.disk_here in
-    step cfg P E Q k w u x _ [] _ h m tt (new.0, tt) (λ z is. subst (Q u x) (some_is _ z is) new.1)
+    let new = k.opening w u x s h (grows_of w u x _ _ _ m) m.disk_here (m.sent ∙ append-nil _) in
+    step cfg P E Q k w u x _ [] _ s h m tt (new.0, tt) (λ z is. subst (Q u x) (some_is _ z is) new.1)
 keeps_it cfg P E Q k w r s h (IsCutOpening x there m acts) =
     let u : World = r.0 in
-    let new = k.opening w u x s h (grows_of w u x _ _ _ m) m.disk_here in
-    step cfg P E Q k w u x _ [] None h m tt (new.0, tt) (λ z is. absurd (cc))
+    let new = k.opening w u x s h (grows_of w u x _ _ _ m) m.disk_here (m.sent ∙ append-nil _) in
+    step cfg P E Q k w u x _ [] None s h m tt (new.0, tt) (λ z is. absurd (cc))
 
 -- ---- every list of events
 
@@ -107,7 +107,7 @@ run_holds cfg P E Q k [] w named r h = h
 run_holds cfg P E Q k (b ∷ bs) w named r h =
     let next : Reached cfg (after cfg w b) = reached_next cfg w b named.0 r in
     run_holds cfg P E Q k bs (after cfg w b) named.1 next
-    (keeps_it cfg P E Q k w (happens cfg w b) (record { before = r; now = next }) h (shape_of cfg w b named.0))
+    (keeps_it cfg P E Q k w (happens cfg w b) (record { before = r; now = next; event = b; named = named.0; is = refl }) h (shape_of cfg w b named.0))
 
 -- The principle: a fact that keeps what it owes holds in every world.
 pub always : (cfg : ConfigParts) (P : World → Sent → Type 0) (E : World → NodeId → Entry → Type 0)

@@ -7,7 +7,7 @@ use Rattle.vip_config.specs.declared.parts.ConfigParts.{ConfigParts}
 use Rattle.node_spec.specs.Turns.{Input}
 use Rattle.world_spec.specs.Nodes.{Lists, node_turn, listed, boot_entry, booted, opened}
 use Rattle.world_spec.specs.World.{World, Sent, first_world, is_there, disk, at, all_sent}
-use Rattle.world_spec.specs.Events.{Basic, AreNamed, world}
+use Rattle.world_spec.specs.Events.{Basic, AreNamed, IsNamed, after, world}
 use Rattle.world_spec.specs.Shapes.{Grows, Given, TurnMoves, CutMoves}
 
 -- A fact in three parts: P of each datagram, E of each entry, and Q of the lists of each node that is up.
@@ -26,10 +26,13 @@ pub record Reached (cfg : ConfigParts) (w : World) : Type 0 where
   pub named : AreNamed cfg events
   pub is : w ≡ world cfg events
 
--- One step from a reached world. So each law of all worlds holds of both.
+-- One event from a reached world. So each law of all worlds holds of both.
 pub record Steps (cfg : ConfigParts) (w u : World) : Type 0 where
   pub before : Reached cfg w
   pub now : Reached cfg u
+  pub event : Basic
+  pub named : IsNamed cfg event
+  pub is : u ≡ after cfg w event
 
 -- What a fact owes: that it lasts, and that each opening and each turn keeps it.
 pub record Keeps
@@ -38,16 +41,18 @@ pub record Keeps
     (E : World → NodeId → Entry → Type 0)
     (Q : World → NodeId → Lists → Type 0) : Type 0 where
   -- what was said stays true, and so does what was written
-  pub said_lasts : (x : NodeId) (w u : World) → Grows x w u → (s : Sent) → P w s → P u s
-  pub kept_lasts : (x : NodeId) (w u : World) → Grows x w u → (y : NodeId) (e : Entry) → E w y e → E u y e
+  pub said_lasts : (x : NodeId) (w u : World) → Steps cfg w u → Grows x w u → (s : Sent) → P w s → P u s
+  pub kept_lasts : (x : NodeId) (w u : World) → Steps cfg w u → Grows x w u
+      → (y : NodeId) (e : Entry) → E w y e → E u y e
   -- a node's lists stay true under the steps of all others
-  pub lists_last : (x : NodeId) (w u : World) → Grows x w u → (y : NodeId) → y ≢ x → (l : Lists) → Q w y l → Q u y l
+  pub lists_last : (x : NodeId) (w u : World) → Steps cfg w u → Grows x w u
+      → (y : NodeId) → y ≢ x → (l : Lists) → Q w y l → Q u y l
   -- and under its own that changes neither its disk nor what was sent
-  pub lists_rest : (x : NodeId) (w u : World) → Grows x w u → disk u x ≡ disk w x → u.sent ≡ w.sent
-      → (l : Lists) → Q w x l → Q u x l
+  pub lists_rest : (x : NodeId) (w u : World) → Steps cfg w u → Grows x w u
+      → disk u x ≡ disk w x → u.sent ≡ w.sent → (l : Lists) → Q w x l → Q u x l
   -- an opening
   pub opening : (w u : World) (x : NodeId) → Steps cfg w u → Holds P E Q w → Grows x w u
-      → disk u x ≡ booted x (disk w x)
+      → disk u x ≡ booted x (disk w x) → u.sent ≡ w.sent
       → E u x (boot_entry x (disk w x)) × Q u x (opened cfg x (booted x (disk w x)))
   -- a turn
   pub turn : (w u : World) (x : NodeId) (l : Lists) (i : Input) → Steps cfg w u → Holds P E Q w → Grows x w u
