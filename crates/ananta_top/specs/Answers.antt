@@ -3,6 +3,7 @@ use Rattle.std.specs.Prelude.{◌≡◌, ℕ, ◌++◌, List, Option, Some, None
 use Rattle.std.specs.Fmt.{decimal}
 use Rattle.std.specs.declared.alloc.Global.{Global}
 use Rattle.config_text.specs.Faults.{Fault, json, field}
+use Rattle.generated_schedule.specs.Generated.{generated}
 use Rattle.plain_schedule.specs.Schedule.{plain_lines}
 use Rattle.vip_config.specs.Configs.{config_of}
 use Rattle.vip_config.specs.Leases.{ranges_of}
@@ -13,7 +14,7 @@ use Rattle.ananta_top.specs.declared.refusal.Refusal.{Refusal}
 use Rattle.ananta_top.specs.declared.refusal.Refusal.TheVariants as refusal
 use Rattle.ananta_top.specs.Words.{job_of}
 use Rattle.ananta_top.specs.declared.words.Job.{Job}
-use Rattle.ananta_top.specs.declared.words.Job.TheVariants.{Replay, Check}
+use Rattle.ananta_top.specs.declared.words.Job.TheVariants.{Replay, Check, Generate}
 
 -- why there is no answer
 pub data NoAnswer : Type 0 where
@@ -50,11 +51,12 @@ abbrev pub of_config : Result ConfigParts Fault → Result (List ℕ) NoAnswer
 of_config (Ok c) = Ok (summary c)
 of_config (Err fault) = Err (bad_config fault)
 
--- ---- either
+-- ---- each job
 
 abbrev pub answer : Job → List ℕ → Result (List ℕ) NoAnswer
 answer Replay text = of_schedule (plain_lines text)
 answer Check text = of_config (config_of text)
+answer (Generate number count) text = Ok (generated number count)
 
 abbrev pub answer_of : Option Job → List ℕ → Result (List ℕ) NoAnswer
 answer_of None text = Err no_form

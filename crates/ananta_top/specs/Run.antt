@@ -1,14 +1,14 @@
 -- What the program writes, and when it ends how.
 use Rattle.std.specs.Prelude.{ℕ, ◌<◌, ◌≤◌, ◌++◌, List, [], length, take, Option, Some, None, Result, Ok, Err, IfSome, IsOk, IsOkAnd, codes, string_bytes}
 use Rattle.std.specs.Fmt.{decimal}
-use Rattle.std.specs.Io.KnownBytes.{Appends}
+use Rattle.std.specs.Io.KnownBytes.{Appends, IsAtEnd}
 use Rattle.config_text.specs.Faults.{Fault, json, field}
 use Rattle.plain_schedule.specs.Safety.{IsAlwaysSafe}
 use Rattle.ananta_top.specs.Answers.{NoAnswer, no_form, bad_line, bad_config, RefusedBy}
 use Rattle.ananta_top.specs.declared.refusal.Refusal.{Refusal}
 use Rattle.ananta_top.specs.declared.refusal.Refusal.TheVariants as refusal
 use Rattle.ananta_top.specs.declared.words.Job.{Job}
-use Rattle.ananta_top.specs.declared.words.Job.TheVariants.{Replay, Check}
+use Rattle.ananta_top.specs.declared.words.Job.TheVariants.{Replay, Check, Generate}
 use Rattle.ananta_top.specs.declared.ending.Ending.{Ending}
 use Rattle.ananta_top.specs.declared.ending.Ending.TheVariants as ending
 use Rattle.ananta_top.specs.declared.ending.Status.{Status}
@@ -53,6 +53,14 @@ abbrev pub IsSafeFor : Option Job → List ℕ → Type 0
 IsSafeFor None text = Unit {0}
 IsSafeFor (Some Replay) text = IsAlwaysSafe text
 IsSafeFor (Some Check) text = Unit {0}
+IsSafeFor (Some (Generate number count)) text = Unit {0}
+
+-- the input of a job that reads it was read to its end
+abbrev pub IsAtEndFor : Option Job → Option (List ℕ) → Type 0
+IsAtEndFor None left = Unit {0}
+IsAtEndFor (Some Replay) left = IsAtEnd left
+IsAtEndFor (Some Check) left = IsAtEnd left
+IsAtEndFor (Some (Generate number count)) left = Unit {0}
 
 -- a text that may be asked for has an answer
 abbrev pub IsAnswerable : Answered → List ℕ → Type 0

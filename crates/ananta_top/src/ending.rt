@@ -5,9 +5,9 @@ ghost use Rattle.outside_io.specs.Faults.{Rose};
 ghost use Rattle.ananta_top.specs.Run.{ending_line, refusal_line, refusal_status, status_of};
 
 use crate::refusal::Refusal;
-use crate::streams::write_all;
 use itoa::Buffer;
 use outside_io::{Failed, Sink};
+use sink_text::write_all;
 
 /// How a run ended. The numbers are the program's exit statuses.
 #[derive(Clone, Copy, Debug, PartialEq, Eq)]

@@ -3,7 +3,7 @@
 //!
 //! | module | what it does |
 //! |---|---|
-//! | `streams` | reads a source to its end, writes all of a text |
+//! | `streams` | reads a source to its end |
 //! | `words` | which job the words name |
 //! | `answers` | what each job answers to a text |
 //! | `check` | the command `check` |

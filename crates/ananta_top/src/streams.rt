@@ -1,9 +1,9 @@
-ghost use Rattle.std.specs.Prelude.{◌≡◌, ◌≤◌, ◌<◌, ℕ, OnErr, OnOk, IfOk, IfSome, IsErrOf, vec_len, take, length};
-ghost use Rattle.std.specs.Io.KnownBytes.{Appends, IsAtEnd};
+ghost use Rattle.std.specs.Prelude.{◌≡◌, ◌≤◌, ◌<◌, OnOk, IfOk, IfSome, IsErrOf, vec_len, length};
+ghost use Rattle.std.specs.Io.KnownBytes.{IsAtEnd};
 ghost use Rattle.outside_io.specs.Faults.{Rose};
 ghost use Rattle.ananta_top.specs.declared.streams.InputFault.TheVariants.{NoMemory};
 
-use outside_io::{Failed, Sink, Source};
+use outside_io::{Failed, Source};
 use std::alloc::{AllocError, Global};
 
 /// The most bytes that an input may have.
@@ -48,23 +48,4 @@ pub fn read_all<S: Source>(alloc: Global, input: &mut S) -> Result<Vec<u8>, Inpu
         }
         bytes.extend_from_slice(&buf[..count])?;
     }
-}
-
-/// Writes all of the bytes. After a fault a front of them is written.
-#[tactic(auto, using(crate::proofs::Written::append_next))]
-pub fn write_all<K: Sink>(out: &mut K, bytes: &[u8]) -> Result<(), Failed>
-    ensures ok { OnOk result (Appends (K.written out.old) (K.written out.new) bytes.now) }
-    ensures err { OnErr result (Rose (K.faults out.old) (K.faults out.new)) }
-    ensures front { (n : ℕ) × Appends (K.written out.old) (K.written out.new) (take n bytes.now) }
-    ensures later { K.faults out.old ≤ K.faults out.new }
-{
-    let mut at = 0;
-    while at < bytes.len() {
-        let count = out.write(&bytes[at..])?;
-        if count == 0 {
-            return Err(Failed);
-        }
-        at += count;
-    }
-    Ok(())
 }

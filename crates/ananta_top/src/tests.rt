@@ -47,12 +47,14 @@ struct Ran {
 /// Runs over any source, with a sink that takes at most 16 bytes a call.
 fn run_over<S: Source>(
     alloc: Global,
-    word: &str,
+    line: &[&str],
     input: &mut S,
     write_fails: &[u64],
 ) -> Result<Ran, AllocError> {
     let mut words = Vec::new(alloc);
-    words.push(String::from_str(alloc, word)?)?;
+    for word in line {
+        words.push(String::from_str(alloc, word)?)?;
+    }
     let mut out = MemSink::new(Vec::new(alloc), 16, write_fails.to_vec(alloc)?);
     let mut err = MemSink::new(Vec::new(alloc), 16, Vec::new(alloc));
     let mut host = NoHost::new();
@@ -65,12 +67,12 @@ fn run_over<S: Source>(
 
 fn replay(alloc: Global, text: &[u8]) -> Result<Ran, AllocError> {
     let mut input = MemSource::new(text.to_vec(alloc)?, Vec::new(alloc));
-    run_over(alloc, "replay", &mut input, &[])
+    run_over(alloc, &["replay"], &mut input, &[])
 }
 
 fn check(alloc: Global, text: &[u8]) -> Result<Ran, AllocError> {
     let mut input = MemSource::new(text.to_vec(alloc)?, Vec::new(alloc));
-    run_over(alloc, "check", &mut input, &[])
+    run_over(alloc, &["check"], &mut input, &[])
 }
 
 /// The small configuration with the first of this text replaced.
@@ -160,10 +162,28 @@ fn bad_configurations(rt: HostRuntime) -> Result<(), Fail> {
 #[test]
 fn words_of_no_form(rt: HostRuntime) -> Result<(), Fail> {
     let alloc = rt.alloc();
-    for word in ["", "Replay", "replay ", "--help", "checks"] {
+    for words in [
+        ["Replay"].as_slice(),
+        &[],
+        &[""],
+        &["replay "],
+        &["--help"],
+        &["checks"],
+        &["replay", "replay"],
+        &["check", "7", "0"],
+        &["generate"],
+        &["generate", "7"],
+        &["generate", "7", "0", "0"],
+        &["generate", "07", "0"],
+        &["generate", "+7", "0"],
+        &["generate", "", "0"],
+        &["generate", "18446744073709551616", "0"],
+        &["generate", "7", "99997"],
+        &["generate", "7", "00"],
+    ] {
         let mut input = MemSource::new(LEASES.to_vec(alloc)?, Vec::new(alloc));
-        let ran = run_over(alloc, word, &mut input, &[])?;
-        assert_eq!(rt; ran.status, Status::Usage, "{word:?}");
+        let ran = run_over(alloc, words, &mut input, &[])?;
+        assert_eq!(rt; ran.status, Status::Usage);
         assert_eq!(rt; ran.err.bytes(), b"usage\n".as_slice());
     }
     Ok(())
@@ -252,12 +272,52 @@ fn as_many_lines_as_allowed(rt: HostRuntime) -> Result<(), Fail> {
 fn as_many_bytes_as_allowed(rt: HostRuntime) -> Result<(), Fail> {
     let alloc = rt.alloc();
     let mut input = LongSource { left: 67_108_864 };
-    let ran = run_over(alloc, "replay", &mut input, &[])?;
+    let ran = run_over(alloc, &["replay"], &mut input, &[])?;
     assert_eq!(rt; ran.status, Status::BadSchedule);
     let mut input = LongSource { left: 67_108_865 };
-    let ran = run_over(alloc, "replay", &mut input, &[])?;
+    let ran = run_over(alloc, &["replay"], &mut input, &[])?;
     assert_eq!(rt; ran.status, Status::TooLong);
     assert_eq!(rt; ran.err.bytes(), b"input too long\n".as_slice());
+    Ok(())
+}
+
+/// The lines behind the configuration of a generated schedule without lines of its own.
+const OPENING: &[u8] = b"---\ntick mux 0 1000\ntick mux 1 1000\ntick replica 0 1000\nsettle 50\n";
+
+#[test]
+fn a_generated_schedule(rt: HostRuntime) -> Result<(), Fail> {
+    let alloc = rt.alloc();
+    for (words, lines) in [
+        (["generate", "7", "0"], 0usize),
+        (["generate", "18446744073709551615", "1"], 1),
+        (["generate", "0", "300"], 300),
+    ] {
+        // A read would fail.
+        let mut input = MemSource::new(LEASES.to_vec(alloc)?, [0].to_vec(alloc)?);
+        let ran = run_over(alloc, &words, &mut input, &[])?;
+        assert_eq!(rt; ran.status, Status::Done);
+        assert_eq!(rt; ran.err.bytes().len(), 0);
+        let ends = ran
+            .out
+            .bytes()
+            .iter()
+            .filter(|byte| **byte == b'\n')
+            .count();
+        assert_eq!(rt; ends, 6 + lines);
+        let tail = &ran.out.bytes()[ran.out.bytes().len().min(576)..];
+        assert!(rt; tail.starts_with(OPENING));
+    }
+    Ok(())
+}
+
+#[test]
+fn a_generated_schedule_is_cut(rt: HostRuntime) -> Result<(), Fail> {
+    let alloc = rt.alloc();
+    let mut input = MemSource::new(Vec::new(alloc), Vec::new(alloc));
+    let ran = run_over(alloc, &["generate", "7", "0"], &mut input, &[1])?;
+    assert_eq!(rt; ran.status, Status::WriteFault);
+    assert_eq!(rt; ran.out.bytes(), b"{\"version\":1,\"ro".as_slice());
+    assert_eq!(rt; ran.err.bytes(), b"write fault\n".as_slice());
     Ok(())
 }
 
@@ -265,11 +325,11 @@ fn as_many_bytes_as_allowed(rt: HostRuntime) -> Result<(), Fail> {
 fn faults_of_the_streams(rt: HostRuntime) -> Result<(), Fail> {
     let alloc = rt.alloc();
     let mut input = MemSource::new(LEASES.to_vec(alloc)?, [0].to_vec(alloc)?);
-    let ran = run_over(alloc, "replay", &mut input, &[])?;
+    let ran = run_over(alloc, &["replay"], &mut input, &[])?;
     assert_eq!(rt; ran.status, Status::ReadFault);
     assert_eq!(rt; ran.err.bytes(), b"read fault\n".as_slice());
     let mut input = MemSource::new(LEASES.to_vec(alloc)?, Vec::new(alloc));
-    let ran = run_over(alloc, "replay", &mut input, &[1])?;
+    let ran = run_over(alloc, &["replay"], &mut input, &[1])?;
     assert_eq!(rt; ran.status, Status::WriteFault);
     assert_eq!(rt; ran.out.bytes(), &LEASED[..16]);
     assert_eq!(rt; ran.err.bytes(), b"write fault\n".as_slice());

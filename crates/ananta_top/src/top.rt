@@ -1,21 +1,22 @@
-ghost use Rattle.std.specs.Prelude.{◌≡◌, ◌≤◌, ◌↔◌, Some, None, IfSome, IsSomeAnd, length};
-ghost use Rattle.std.specs.Io.KnownBytes.{IsAtEnd};
+ghost use Rattle.std.specs.Prelude.{◌≡◌, ◌≤◌, ◌↔◌, false, Some, None, IfOk, IfSome, IsErrOf, IsSomeAnd, OnOk, length, vec_len};
 ghost use Rattle.outside_io.specs.Faults.{Rose};
 ghost use Rattle.ananta_top.specs.Answers.{answer, answered};
-ghost use Rattle.ananta_top.specs.Words.{job_of};
-ghost use Rattle.ananta_top.specs.Run.{AfterReading, FirstIs, IsAnswerable, IsBadConfig, IsBadSchedule, IsDone, IsRefusal, IsSafeFor, IsTooLong, IsWithin, JudgesInput, JudgesText, Printed, PrintedFront, Refuses, TellsLine};
+ghost use Rattle.ananta_top.specs.Words.{IsWithinLines, given, job_of, reads_input, text_for};
+ghost use Rattle.ananta_top.specs.Run.{AfterReading, FirstIs, IsAnswerable, IsAtEndFor, IsBadConfig, IsBadSchedule, IsDone, IsRefusal, IsSafeFor, IsTooLong, IsWithin, JudgesInput, JudgesText, Printed, PrintedFront, Refuses, TellsLine};
 
 use crate::answers::answer;
 use crate::ending::{Ending, Status, report, status_of};
 use crate::refusal::Refusal;
-use crate::streams::{INPUT_LIMIT, InputFault, read_all, write_all};
+use crate::streams::{INPUT_LIMIT, InputFault, read_all};
 use crate::words::{Job, job_of};
 use outside_io::{Clock, Failed, Host, Sink, Source};
+use sink_text::write_all;
 use std::alloc::Global;
 
 /// Does a job on a text that was read.
 fn respond<K: Sink>(alloc: Global, job: Job, text: &[u8], out: &mut K) -> Ending
-    requires { length text.now ≤ INPUT_LIMIT }
+    requires lines { IsWithinLines job }
+    requires within { length text.now ≤ INPUT_LIMIT }
     ensures done { result ≡ Ending.Done → Printed (answer job) (K.written out.old) (K.written out.new) text.now }
     ensures safe { IsSafeFor (Some job) text.now }
     ensures first { FirstIs result (answer job text.now) }
@@ -34,6 +35,22 @@ fn respond<K: Sink>(alloc: Global, job: Job, text: &[u8], out: &mut K) -> Ending
     }
 }
 
+/// The text that a job has to do with: its input, read to the end, or nothing.
+fn text_for<S: Source>(alloc: Global, job: Job, input: &mut S) -> Result<Vec<u8>, InputFault>
+    ensures all { IfOk result (λ v. IfSome (text_for (Some job) (S.left input.old)) (λ xs. v.items ≡ xs)) }
+    ensures end { OnOk result (IsAtEndFor (Some job) (S.left input.new)) }
+    ensures within { IfOk result (λ v. vec_len v ≤ INPUT_LIMIT) }
+    ensures read { IsErrOf result InputFault.Read → Rose (S.faults input.old) (S.faults input.new) }
+    ensures long { IsErrOf result InputFault.TooLong
+        → IfSome (text_for (Some job) (S.left input.old)) IsTooLong }
+    ensures unread { reads_input (Some job) ≡ false → input.new ≡ input.old }
+{
+    match job {
+        Job::Replay | Job::Check => read_all(alloc, input),
+        Job::Generate { .. } => Ok(Vec::new(alloc)),
+    }
+}
+
 /// Reads the input and does the job.
 fn perform<S: Source, K: Sink>(
     alloc: Global,
@@ -43,21 +60,26 @@ fn perform<S: Source, K: Sink>(
 ) -> Ending
     ensures usage { (result ≡ Ending.Usage) ↔ (job_of words.now ≡ None) }
     ensures done { result ≡ Ending.Done
-        → IfSome (S.left input.old) (Printed (answered words.now) (K.written out.old) (K.written out.new)) }
-    ensures end { result ≡ Ending.Done → IsAtEnd (S.left input.new) }
-    ensures safe { result ≡ Ending.Done → IfSome (S.left input.old) (IsSafeFor (job_of words.now)) }
-    ensures within { JudgesText result → IfSome (S.left input.old) IsWithin }
-    ensures first { IfSome (S.left input.old) (λ text. FirstIs result (answered words.now text)) }
-    ensures long { result ≡ Ending.TooLong → IfSome (S.left input.old) IsTooLong }
+        → IfSome (given words.now (S.left input.old))
+        (Printed (answered words.now) (K.written out.old) (K.written out.new)) }
+    ensures end { result ≡ Ending.Done → IsAtEndFor (job_of words.now) (S.left input.new) }
+    ensures safe { result ≡ Ending.Done
+        → IfSome (given words.now (S.left input.old)) (IsSafeFor (job_of words.now)) }
+    ensures within { JudgesText result → IfSome (given words.now (S.left input.old)) IsWithin }
+    ensures first { IfSome (given words.now (S.left input.old))
+        (λ text. FirstIs result (answered words.now text)) }
+    ensures long { result ≡ Ending.TooLong → IfSome (given words.now (S.left input.old)) IsTooLong }
     ensures read { result ≡ Ending.ReadFault → Rose (S.faults input.old) (S.faults input.new) }
     ensures write { result ≡ Ending.WriteFault → Rose (K.faults out.old) (K.faults out.new) }
     ensures front { result ≡ Ending.WriteFault
-        → IfSome (S.left input.old) (PrintedFront (answered words.now) (K.written out.old) (K.written out.new)) }
+        → IfSome (given words.now (S.left input.old))
+        (PrintedFront (answered words.now) (K.written out.old) (K.written out.new)) }
     ensures kept { IsRefusal result → out.new ≡ out.old }
+    ensures unread { reads_input (job_of words.now) ≡ false → input.new ≡ input.old }
 {
     match job_of(words) {
         None => Ending::Usage,
-        Some(job) => match read_all(alloc, input) {
+        Some(job) => match text_for(alloc, job, input) {
             Err(InputFault::Read) => Ending::ReadFault,
             Err(InputFault::TooLong) => Ending::TooLong,
             Err(InputFault::NoMemory) => Ending::Refused(Refusal::NoMemory),
@@ -66,8 +88,9 @@ fn perform<S: Source, K: Sink>(
     }
 }
 
-/// The program. `words` are those after its name. The input is read to its end, the job's answer goes to `out`, and
-/// what a status but Done has to tell goes to `err` as one line. The host and the clock stay as they were.
+/// The program. `words` are those after its name. The input is read to its end where the job has to do with it, the
+/// job's answer goes to `out`, and what a status but Done has to tell goes to `err` as one line. The host and the clock
+/// stay as they were.
 ///
 /// Statuses are tested in this order: Usage, ReadFault, TooLong, BadConfig or BadSchedule, WriteFault; NoMemory may
 /// come in place of any but Usage. Before WriteFault nothing is written to `out`.
@@ -80,37 +103,42 @@ pub fn run<S: Source, K: Sink, H: Host, C: Clock>(
     host: &mut H,
     clock: &mut C,
 ) -> Status
-    // The headline: what was written is exactly the answer, what the schedule prints or the line of the configuration;
-    // the input was read to its end; and each moment of a schedule was safe.
+    // The headline: what was written is exactly the answer, what the schedule prints, the line of the configuration or
+    // the schedule of a number; the input was read to its end; and each moment of a schedule was safe.
     ensures done { result ≡ Status.Done
-        → IfSome (S.left input.old) (Printed (answered words.now) (K.written out.old) (K.written out.new)) }
-    ensures end { result ≡ Status.Done → IsAtEnd (S.left input.new) }
-    ensures safe { result ≡ Status.Done → IfSome (S.left input.old) (IsSafeFor (job_of words.now)) }
+        → IfSome (given words.now (S.left input.old))
+        (Printed (answered words.now) (K.written out.old) (K.written out.new)) }
+    ensures end { result ≡ Status.Done → IsAtEndFor (job_of words.now) (S.left input.new) }
+    ensures safe { result ≡ Status.Done
+        → IfSome (given words.now (S.left input.old)) (IsSafeFor (job_of words.now)) }
 
     // A text that has an answer gets it, unless a read or a write fails.
-    ensures complete { IsSomeAnd (S.left input.old) (IsAnswerable (answered words.now))
+    ensures complete { IsSomeAnd (given words.now (S.left input.old)) (IsAnswerable (answered words.now))
         → ¬ (Rose (S.faults input.old) (S.faults input.new)) → ¬ (Rose (K.faults out.old) (K.faults out.new))
         → IsDone result }
 
     // When each other answer comes.
     ensures usage { (result ≡ Status.Usage) ↔ (job_of words.now ≡ None) }
     ensures read { result ≡ Status.ReadFault → Rose (S.faults input.old) (S.faults input.new) }
-    ensures long { result ≡ Status.TooLong → IfSome (S.left input.old) IsTooLong }
-    ensures within { JudgesInput result → IfSome (S.left input.old) IsWithin }
+    ensures long { result ≡ Status.TooLong → IfSome (given words.now (S.left input.old)) IsTooLong }
+    ensures within { JudgesInput result → IfSome (given words.now (S.left input.old)) IsWithin }
     ensures config { result ≡ Status.BadConfig
-        → IfSome (S.left input.old) (λ text. IsBadConfig (answered words.now text)) }
+        → IfSome (given words.now (S.left input.old)) (λ text. IsBadConfig (answered words.now text)) }
     ensures bad { result ≡ Status.BadSchedule
-        → IfSome (S.left input.old) (λ text. IsBadSchedule (answered words.now text)) }
+        → IfSome (given words.now (S.left input.old)) (λ text. IsBadSchedule (answered words.now text)) }
     ensures write { result ≡ Status.WriteFault → Rose (K.faults out.old) (K.faults out.new) }
 
     // What stands on the two sinks otherwise.
     ensures front { result ≡ Status.WriteFault
-        → IfSome (S.left input.old) (PrintedFront (answered words.now) (K.written out.old) (K.written out.new)) }
+        → IfSome (given words.now (S.left input.old))
+        (PrintedFront (answered words.now) (K.written out.old) (K.written out.new)) }
     ensures kept { Refuses result → out.new ≡ out.old }
     ensures told { ¬ (Rose (K.faults err.old) (K.faults err.new))
-        → TellsLine (answered words.now) (S.left input.old) (K.written err.old) (K.written err.new) result }
+        → TellsLine (answered words.now) (given words.now (S.left input.old)) (K.written err.old) (K.written err.new)
+        result }
 
     // What the job doesn't need.
+    ensures unread { reads_input (job_of words.now) ≡ false → input.new ≡ input.old }
     ensures host { host.new ≡ host.old }
     ensures clock { clock.new ≡ clock.old }
 {

@@ -1,5 +1,5 @@
 use Rattle.std.proofs.Common.{codes}
-use Rattle.ananta_top.proofs.Written.{append_then}
+use Rattle.sink_text.proofs.Written.{append_then}
 use Rattle.ananta_top.proofs.ending.report_path.Goals as goal
 
 pub returns-clause-ok : goal.returns-clause-ok
