@@ -212,7 +212,7 @@ impl State {
         };
         let packet = &mut bytes[..len];
         let end = connection.private;
-        packet::translate_destination(packet, end.src, end.sport);
+        packet::translate_destination(packet, end.src, end.sport, 1);
         let _ = write!(self.out, "machine {} ", Ipv4Addr::from_bits(end.src));
         encode(&mut self.out, packet);
         self.out.push('\n');

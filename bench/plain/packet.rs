@@ -55,8 +55,8 @@ fn pseudo(src: u32, dst: u32, proto: u8, len: usize) -> u64 {
     halves(src) + halves(dst) + u64::from(proto) + len as u64
 }
 
-/// The five numbers and the total length, or the packet's first fault.
-pub fn read(bytes: &[u8]) -> Result<(Key, usize), &'static str> {
+/// The total length, or the header's first fault.
+pub fn read_header(bytes: &[u8]) -> Result<usize, &'static str> {
     if bytes.len() < 20 {
         return Err("IpShort");
     }
@@ -77,6 +77,13 @@ pub fn read(bytes: &[u8]) -> Result<(Key, usize), &'static str> {
     if word(bytes, 6) & 0x3fff != 0 {
         return Err("Fragment");
     }
+    Ok(total)
+}
+
+/// The five numbers and the total length, or the packet's first fault.
+pub fn read(bytes: &[u8]) -> Result<(Key, usize), &'static str> {
+    let total = read_header(bytes)?;
+    let header = header_len(bytes);
     let (src, dst, proto) = (address(bytes, 12), address(bytes, 16), bytes[9]);
     let mut segment = &bytes[header..total];
     let mut summed = true;
@@ -109,11 +116,16 @@ pub fn read(bytes: &[u8]) -> Result<(Key, usize), &'static str> {
     Ok((Key { src, dst, sport: word(segment, 0), dport: word(segment, 2), proto }, total))
 }
 
-fn set_sums(bytes: &mut [u8]) {
+pub fn set_header_sum(bytes: &mut [u8]) {
     let header = header_len(bytes);
     put(bytes, 10, 0);
     let sum = !fold(words(&bytes[..header]));
     put(bytes, 10, sum);
+}
+
+pub fn set_sums(bytes: &mut [u8]) {
+    let header = header_len(bytes);
+    set_header_sum(bytes);
     let udp = bytes[9] == 17;
     let (at, end) = match udp {
         false => (header + 16, usize::from(word(bytes, 2))),
@@ -162,10 +174,10 @@ pub fn translate_source(bytes: &mut [u8], ip: u32, port: u16) {
     set_sums(bytes);
 }
 
-pub fn translate_destination(bytes: &mut [u8], ip: u32, port: u16) {
+pub fn translate_destination(bytes: &mut [u8], ip: u32, port: u16, hops: u8) {
     let header = header_len(bytes);
     clamp(bytes);
-    bytes[8] -= 1;
+    bytes[8] -= hops;
     bytes[16..20].copy_from_slice(&ip.to_be_bytes());
     put(bytes, header + 2, port);
     set_sums(bytes);
