@@ -51,13 +51,13 @@ use Rattle.world_laws.proofs.Living.{lives_in_world}
 
 module _ {X Y : Type 0} (f : X → List Y) where
   -- one of the lists has it
-  record From (xs : List X) (y : Y) : Type 0 where
-    place : ℕ
-    item : X
-    is : slice_get xs place ≡ Some item
-    there : In y (f item)
+  pub record From (xs : List X) (y : Y) : Type 0 where
+    pub place : ℕ
+    pub item : X
+    pub is : slice_get xs place ≡ Some item
+    pub there : In y (f item)
 
-  from_flat : (xs : List X) (y : Y) → In y (flat_map f xs) → From xs y
+  pub from_flat : (xs : List X) (y : Y) → In y (flat_map f xs) → From xs y
   from_flat [] y i = absurd i
   from_flat (x ∷ xs) y i = elim (in_cases (f x) (flat_map f xs) y i) [
     | inl here ↦ record { place = 0; item = x; is = refl; there = here }
@@ -65,7 +65,7 @@ module _ {X Y : Type 0} (f : X → List Y) where
         record { place = suc k.place; item = k.item; is = k.is; there = k.there })
   ]
 
-  in_flat : (xs : List X) (i : ℕ) (x : X) (y : Y) → slice_get xs i ≡ Some x → In y (f x) → In y (flat_map f xs)
+  pub in_flat : (xs : List X) (i : ℕ) (x : X) (y : Y) → slice_get xs i ≡ Some x → In y (f x) → In y (flat_map f xs)
   in_flat [] i x y e h = absurd (cc)
   in_flat (z ∷ zs) zero x y e h =
       in_left (f z) (flat_map f zs) y (let same : z ≡ x = cc in subst (λ (k : X). In y (f k)) (sym same) h)
@@ -113,12 +113,12 @@ get_or (x ∷ xs) zero s e = cc
 get_or (x ∷ xs) (suc i) s e = get_or xs i s e
 
 -- an image has its source
-record Image {X Y : Type 0} (g : X → Y) (xs : List X) (y : Y) : Type 0 where
-  item : X
-  there : In item xs
-  is : g item ≡ y
+pub record Image {X Y : Type 0} (g : X → Y) (xs : List X) (y : Y) : Type 0 where
+  pub item : X
+  pub there : In item xs
+  pub is : g item ≡ y
 
-image_of : {X Y : Type 0} (g : X → Y) (xs : List X) (y : Y) → In y (map g xs) → Image g xs y
+pub image_of : {X Y : Type 0} (g : X → Y) (xs : List X) (y : Y) → In y (map g xs) → Image g xs y
 image_of g [] y i = absurd i
 image_of g (x ∷ xs) y i = elim i [
   | inl e ↦ record { item = x; there = inl refl; is = e }
@@ -127,7 +127,7 @@ image_of g (x ∷ xs) y i = elim i [
 
 -- ---- an agent that is up
 
-at_place : (w : World) (i : ℕ) (s : Site) → slice_get w.agents i ≡ Some s → at w (Agent i) ≡ s.up
+pub at_place : (w : World) (i : ℕ) (s : Site) → slice_get w.agents i ≡ Some s → at w (Agent i) ≡ s.up
 unfolding site
 at_place w i s e = ap (λ (x : Site). x.up) (get_or w.agents i s e)
 

@@ -84,7 +84,7 @@ up_to a b c h k = omega arith
 
 -- ---- what an agent sends, by its kind
 
-data AgentSaid (cfg : ConfigParts) (w : World) (agent : ℕ) : Message → Type 0 where
+pub data AgentSaid (cfg : ConfigParts) (w : World) (agent : ℕ) : Message → Type 0 where
   AnAsk : (boot : ℕ) (machine : Ip4) (seq : ℕ) → boot ≤ agent_boot w agent
       → AgentSaid cfg w agent (message.Ask boot machine seq)
   AnUp : (boot : ℕ) → boot ≤ agent_boot w agent → AgentSaid cfg w agent (message.AgentUp boot)
@@ -117,8 +117,8 @@ agent_said cfg w agent (message.RedirectAsk src sport dst dport machine) h = abs
 agent_said cfg w agent (message.Redirect side n src sport dst dport opener server) h = absurd h
 
 -- an Ask that is spelled so tells a boot that the agent had
-asked : (cfg : ConfigParts) (w : World) (agent : ℕ) (m : Message) → AgentSaid cfg w agent m → (boot : ℕ) (machine : Ip4)
-    (seq : ℕ) → boot < 2 ^ 64 → message_bytes m ≡ message_bytes (message.Ask boot machine seq)
+pub asked : (cfg : ConfigParts) (w : World) (agent : ℕ) (m : Message) → AgentSaid cfg w agent m → (boot : ℕ)
+    (machine : Ip4) (seq : ℕ) → boot < 2 ^ 64 → message_bytes m ≡ message_bytes (message.Ask boot machine seq)
     → boot ≤ agent_boot w agent
 asked cfg w agent m (AnAsk b machine' seq' le) boot machine seq lt e =
     let whole : number b ++ address machine' ++ number seq' ≡ number boot ++ address machine ++ number seq =
@@ -134,8 +134,8 @@ asked cfg w agent m (AReturn b n own) boot machine seq lt e =
     absurd (let k : 11 ≡ 8 = same_kind 11 8 _ _ e in omega (arith, k))
 
 -- so does an AgentUp
-upped : (cfg : ConfigParts) (w : World) (agent : ℕ) (m : Message) → AgentSaid cfg w agent m → (boot : ℕ) → boot < 2 ^ 64
-    → message_bytes m ≡ message_bytes (message.AgentUp boot) → boot ≤ agent_boot w agent
+pub upped : (cfg : ConfigParts) (w : World) (agent : ℕ) (m : Message) → AgentSaid cfg w agent m → (boot : ℕ)
+    → boot < 2 ^ 64 → message_bytes m ≡ message_bytes (message.AgentUp boot) → boot ≤ agent_boot w agent
 upped cfg w agent m (AnAsk b machine seq le) boot lt e = absurd
     (let k : 8 ≡ 13 = same_kind 8 13 _ _ e in omega (arith, k))
 upped cfg w agent m (AnUp b le) boot lt e =
@@ -172,20 +172,20 @@ pub reasons_at : (cfg : ConfigParts) → IsSound cfg → (w : World) → Reached
 reasons_at cfg sound w r =
     subst (λ (v : World). Each (HaveReasons v) (log v)) (sym r.is) (log_has_reasons cfg sound r.events r.named)
 
-reason_of : (cfg : ConfigParts) → IsSound cfg → (w : World) → Reached cfg w → (c : Placed) → In c (commands (log w))
+pub reason_of : (cfg : ConfigParts) → IsSound cfg → (w : World) → Reached cfg w → (c : Placed) → In c (commands (log w))
     → HasReason w c.command
 reason_of cfg sound w r c i =
     each_in (λ (x : Placed). HasReason w x.command) (commands (log w)) c
     (each_command (HasReason w) 0 (log w) (reasons_at cfg sound w r)) i
 
-allowed_of : (cfg : ConfigParts) → IsSound cfg → (w : World) → Reached cfg w → (c : Placed) → In c (commands (log w))
-    → IsAllowed c.command
+pub allowed_of : (cfg : ConfigParts) → IsSound cfg → (w : World) → Reached cfg w → (c : Placed)
+    → In c (commands (log w)) → IsAllowed c.command
 allowed_of cfg sound w r c i =
     each_in (λ (x : Placed). IsAllowed x.command) (commands (log w)) c
     (each_command IsAllowed 0 (log w)
     (each_on IsValue (Each IsAllowed) (λ v h. h.fields) (log w) (log_fits cfg sound w r))) i
 
-said_of : (cfg : ConfigParts) → IsSound cfg → (w : World) → Reached cfg w → (agent : ℕ) (m : Message)
+pub said_of : (cfg : ConfigParts) → IsSound cfg → (w : World) → Reached cfg w → (agent : ℕ) (m : Message)
     (s : Spoke w agent m)
     → AgentSaid cfg w agent s.message
 said_of cfg sound w r agent m s = agent_said cfg w agent s.message
@@ -213,11 +213,11 @@ no_raise cfg sound w r agent boot own (Release n) fits why up = up
 no_raise cfg sound w r agent boot own (Freed n) fits why up = up
 
 -- the row of an effect on a lease's number has the lease's agent and boot
-record SameOwner (row : Row) (agent boot : ℕ) : Type 0 where
-  agent_is : row.agent ≡ agent
-  boot_is : row.boot ≡ boot
+pub record SameOwner (row : Row) (agent boot : ℕ) : Type 0 where
+  pub agent_is : row.agent ≡ agent
+  pub boot_is : row.boot ≡ boot
 
-owner_of : (cfg : ConfigParts) → IsSound cfg → (w : World) → Reached cfg w → (agent boot : ℕ) (h : HeldRange)
+pub owner_of : (cfg : ConfigParts) → IsSound cfg → (w : World) → Reached cfg w → (agent boot : ℕ) (h : HeldRange)
     → IsLease cfg w agent boot h.n h.range h.machine → (row : Row) → row.n ≡ h.n → WasBorn (done cfg w) row
     → SameOwner row agent boot
 owner_of cfg sound w r agent boot h lease row same was =
@@ -230,7 +230,7 @@ owner_of cfg sound w r agent boot h lease row same was =
     }
 
 -- a lease that was released was given back by its agent in its boot
-returned_by : (cfg : ConfigParts) → IsSound cfg → (w : World) → Reached cfg w → (agent boot : ℕ) (h : HeldRange)
+pub returned_by : (cfg : ConfigParts) → IsSound cfg → (w : World) → Reached cfg w → (agent boot : ℕ) (h : HeldRange)
     → IsLease cfg w agent boot h.n h.range h.machine → HasReason w (Release h.n) → HasReturned w agent boot h.n
 returned_by cfg sound w r agent boot h lease why =
     let s : Spoke w why.0 (message.Return why.1 h.n) = why.2 in
@@ -320,7 +320,7 @@ row_found (x ∷ xs) row own i = elim i [
         by false e = refl
 
 -- one Granted more would grant it again, and nothing is granted twice
-not_being : (rules : LeaseRules) (cs : List Placed) (p : ℕ) (row : Row) → Ascends cs
+pub not_being : (rules : LeaseRules) (cs : List Placed) (p : ℕ) (row : Row) → Ascends cs
     → Each (λ (c : Placed). c.place < p) cs → OwnNumbers (story rules cs).leases.rows → In row
     (story rules cs).leases.rows
     → IsGranted (history rules cs) row.n → row.phase ≡ BeingLeased → ⊥

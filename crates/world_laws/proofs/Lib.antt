@@ -20,3 +20,6 @@ pub mod Taken
 pub mod AgentLaws
 pub mod Leased
 pub mod Ends
+pub mod KeptLeases
+pub mod Single
+pub mod ReplyLaws

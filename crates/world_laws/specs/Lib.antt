@@ -9,3 +9,5 @@ pub mod Reasons
 pub mod Grants
 pub mod Agents
 pub mod Safety
+pub mod Kept
+pub mod Replies

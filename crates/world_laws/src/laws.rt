@@ -11,9 +11,11 @@ ghost use Rattle.paxos_laws.specs.Order.{Claims};
 ghost use Rattle.world_laws.specs.Agents.{AgentsAreRight, AgentsTellTheirOwn};
 ghost use Rattle.world_laws.specs.Grants.{AnswersAreTrue};
 ghost use Rattle.world_laws.specs.Hearing.{IsSound, ListsFit, SentFits, WrittenFits};
+ghost use Rattle.world_laws.specs.Kept.{GrantsAreKept};
 ghost use Rattle.world_laws.specs.Living.{LivesAreInOrder, LivesGoOn};
 ghost use Rattle.world_laws.specs.Log.{BooksAgree, InOrder, LogGrows, StepsOnce, ValuesTravel, log};
 ghost use Rattle.world_laws.specs.Reasons.{AnyEntry, AnySent, HaveReasons, QueueHasReasons};
+ghost use Rattle.world_laws.specs.Replies.{RepliesReachTheirMachine};
 ghost use Rattle.world_laws.specs.Safety.{ConnsAreApart, HeldAreLeased, RangesAreHeldOnce};
 ghost use Rattle.world_laws.specs.Sayings.{AgentSays, MuxSays};
 ghost use Rattle.world_laws.specs.Seen.{view};
@@ -110,4 +112,18 @@ pub fn safety()
         → RangesAreHeldOnce (world cfg bs) }
     ensures ends { (cfg : ConfigParts) → IsSound cfg → (bs : List Basic) → AreNamed cfg bs
         → ConnsAreApart (world cfg bs) }
+{}
+
+/// In every world no acknowledged lease is forgotten: of each Grant that a replica ever sent, its agent gave the lease
+/// back, or has run in a later boot since, or the book has it Leased, to the Grant's machine, agent and boot.
+pub fn kept()
+    ensures { (cfg : ConfigParts) → IsSound cfg → (bs : List Basic) → AreNamed cfg bs
+        → GrantsAreKept cfg (world cfg bs) }
+{}
+
+/// In every world a reply to a live connection reaches the machine that opened it and no other: whichever agent gets it
+/// from a mux or an agent drops it, or hands it to that machine, at the port from which the connection was opened.
+pub fn replies()
+    ensures { (cfg : ConfigParts) → IsSound cfg → (bs : List Basic) → AreNamed cfg bs
+        → RepliesReachTheirMachine cfg (world cfg bs) }
 {}

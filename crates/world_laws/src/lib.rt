@@ -4,5 +4,6 @@
 mod laws;
 
 pub use laws::{
-    agents, agreement, each_event, grants, hearing, lives, reasons, safety, sayings, turns,
+    agents, agreement, each_event, grants, hearing, kept, lives, reasons, replies, safety, sayings,
+    turns,
 };
