@@ -1,22 +1,30 @@
 -- What the program writes, and when it ends how.
-use Rattle.std.specs.Prelude.{ℕ, ◌<◌, ◌≤◌, ◌++◌, List, [], length, take, Option, Some, None, Result, Ok, Err, IfSome, IsOk, IsOkAnd, codes, string_bytes}
+use Rattle.std.specs.Prelude.{◌≡◌, ℕ, ◌<◌, ◌≤◌, ◌++◌, Bool, List, [], length, take, Option, Some, None, Result, Ok, Err, IfSome, IsOk, IsOkAnd, String, codes, string_bytes}
 use Rattle.std.specs.Fmt.{decimal}
+use Rattle.std.specs.declared.alloc.Global.{Global}
 use Rattle.std.specs.Io.KnownBytes.{Appends, IsAtEnd}
 use Rattle.config_text.specs.Faults.{Fault, json, field}
 use Rattle.plain_schedule.specs.Safety.{IsAlwaysSafe}
-use Rattle.ananta_top.specs.Answers.{NoAnswer, no_form, bad_line, bad_config, RefusedBy}
+use Rattle.wire_core.specs.declared.node.NodeId.{NodeId}
+use Rattle.vip_config.specs.declared.parts.ConfigParts.{ConfigParts}
+use Rattle.outside_io.specs.Faults.{Rose}
+use Rattle.outside_io.specs.Host.{HostCall}
+use Rattle.node_run.specs.declared.serving.Served.{Served}
+use Rattle.ananta_top.specs.Answers.{Task, write, serve, NoAnswer, no_form, bad_line, bad_config, RefusedBy}
+use Rattle.ananta_top.specs.Node.{NodeRan, damaged_line, turns_line}
 use Rattle.ananta_top.specs.declared.refusal.Refusal.{Refusal}
 use Rattle.ananta_top.specs.declared.refusal.Refusal.TheVariants as refusal
 use Rattle.ananta_top.specs.declared.words.Job.{Job}
-use Rattle.ananta_top.specs.declared.words.Job.TheVariants.{Replay, Check, Generate}
+use Rattle.ananta_top.specs.declared.words.Job.TheVariants.{Replay, Check, Generate, Node}
 use Rattle.ananta_top.specs.declared.ending.Ending.{Ending}
 use Rattle.ananta_top.specs.declared.ending.Ending.TheVariants as ending
 use Rattle.ananta_top.specs.declared.ending.Status.{Status}
 use Rattle.ananta_top.specs.declared.ending.Status.TheVariants.{Done, Usage, ReadFault, TooLong, BadConfig, BadSchedule, WriteFault, NoMemory}
+use Rattle.ananta_top.specs.declared.ending.Status.TheVariants.{LinkFault, DiskFault, Damaged, JournalFull, WrongDisk, Spent}
 
 -- an answer, for each text
 abbrev pub Answered : Type 0
-Answered = List ℕ → Result (List ℕ) NoAnswer
+Answered = List ℕ → Result Task NoAnswer
 
 -- the input has more bytes than an input may have
 abbrev pub IsTooLong : List ℕ → Type 0
@@ -25,24 +33,34 @@ IsTooLong text = 67108864 < length text
 abbrev pub IsWithin : List ℕ → Type 0
 IsWithin text = length text ≤ 67108864
 
+-- Exactly what is to be written was added; of a node that was served, the line of its turns.
+abbrev pub Writes : (before after : Option (List ℕ)) → Task → Type 0
+Writes before after (write lines) = Appends before after lines
+Writes before after (serve cfg who turns) = (served : Served) × Appends before after (turns_line turns served)
+
+-- a front of that was added
+abbrev pub WritesFront : (before after : Option (List ℕ)) → Task → Type 0
+WritesFront before after (write lines) = (n : ℕ) × Appends before after (take n lines)
+WritesFront before after (serve cfg who turns) =
+    (served : Served) × (n : ℕ) × Appends before after (take n (turns_line turns served))
+
 -- exactly the answer to this text was added
 abbrev pub Printed : Answered → Option (List ℕ) → Option (List ℕ) → List ℕ → Type 0
-Printed answered before after text = IsOkAnd (answered text) (λ lines. Appends before after lines)
+Printed answered before after text = IsOkAnd (answered text) (Writes before after)
 
 -- a front of the answer to this text was added
 abbrev pub PrintedFront : Answered → Option (List ℕ) → Option (List ℕ) → List ℕ → Type 0
-PrintedFront answered before after text =
-    IsOkAnd (answered text) (λ lines. (n : ℕ) × Appends before after (take n lines))
+PrintedFront answered before after text = IsOkAnd (answered text) (WritesFront before after)
 
 -- the text is a schedule with a bad line
-abbrev pub IsBadSchedule : Result (List ℕ) NoAnswer → Type 0
+abbrev pub IsBadSchedule : Result Task NoAnswer → Type 0
 IsBadSchedule (Ok lines) = ⊥
 IsBadSchedule (Err no_form) = ⊥
 IsBadSchedule (Err (bad_line n)) = Unit {0}
 IsBadSchedule (Err (bad_config fault)) = ⊥
 
 -- the text is a configuration with a fault
-abbrev pub IsBadConfig : Result (List ℕ) NoAnswer → Type 0
+abbrev pub IsBadConfig : Result Task NoAnswer → Type 0
 IsBadConfig (Ok lines) = ⊥
 IsBadConfig (Err no_form) = ⊥
 IsBadConfig (Err (bad_line n)) = ⊥
@@ -54,6 +72,7 @@ IsSafeFor None text = Unit {0}
 IsSafeFor (Some Replay) text = IsAlwaysSafe text
 IsSafeFor (Some Check) text = Unit {0}
 IsSafeFor (Some (Generate number count)) text = Unit {0}
+IsSafeFor (Some (Node role index turns)) text = Unit {0}
 
 -- the input of a job that reads it was read to its end
 abbrev pub IsAtEndFor : Option Job → Option (List ℕ) → Type 0
@@ -61,6 +80,7 @@ IsAtEndFor None left = Unit {0}
 IsAtEndFor (Some Replay) left = IsAtEnd left
 IsAtEndFor (Some Check) left = IsAtEnd left
 IsAtEndFor (Some (Generate number count)) left = Unit {0}
+IsAtEndFor (Some (Node role index turns)) left = IsAtEnd left
 
 -- a text that may be asked for has an answer
 abbrev pub IsAnswerable : Answered → List ℕ → Type 0
@@ -77,12 +97,12 @@ no_answer_line no_form = codes "usage\n"
 no_answer_line (bad_line n) = codes "schedule line " ++ decimal n ++ codes "\n"
 no_answer_line (bad_config fault) = codes "config " ++ fault_text fault ++ codes "\n"
 
-abbrev pub first_fault : Result (List ℕ) NoAnswer → List ℕ
+abbrev pub first_fault : Result Task NoAnswer → List ℕ
 first_fault (Ok lines) = []
 first_fault (Err e) = no_answer_line e
 
--- the line that a status puts on the error stream, where the answer is this
-abbrev pub status_line : Status → Result (List ℕ) NoAnswer → List ℕ
+-- the line that a status puts on the error stream, where the answer is this; that of a damaged disk is told apart
+abbrev pub status_line : Status → Result Task NoAnswer → List ℕ
 status_line Done answer = []
 status_line Usage answer = codes "usage\n"
 status_line ReadFault answer = codes "read fault\n"
@@ -91,6 +111,18 @@ status_line BadConfig answer = first_fault answer
 status_line BadSchedule answer = first_fault answer
 status_line WriteFault answer = codes "write fault\n"
 status_line NoMemory answer = codes "no memory\n"
+status_line LinkFault answer = codes "link fault\n"
+status_line DiskFault answer = codes "disk fault\n"
+status_line Damaged answer = []
+status_line JournalFull answer = codes "journal full\n"
+status_line WrongDisk answer = codes "wrong disk\n"
+status_line Spent answer = codes "spent\n"
+
+-- a place in a file of the node that is to be served
+abbrev pub TellsDamage : (before after : Option (List ℕ)) → Task → Type 0
+TellsDamage before after (write lines) = ⊥
+TellsDamage before after (serve cfg who turns) =
+    (second : Bool) × (offset : ℕ) × Appends before after (damaged_line who second offset)
 
 abbrev pub refusal_line : Refusal → List ℕ
 refusal_line (refusal.Line n) = codes "schedule line " ++ decimal n ++ codes "\n"
@@ -105,6 +137,12 @@ ending_line ending.ReadFault = codes "read fault\n"
 ending_line ending.TooLong = codes "input too long\n"
 ending_line (ending.Refused r) = refusal_line r
 ending_line ending.WriteFault = codes "write fault\n"
+ending_line ending.LinkFault = codes "link fault\n"
+ending_line ending.DiskFault = codes "disk fault\n"
+ending_line (ending.Damaged who second offset) = damaged_line who second offset
+ending_line ending.JournalFull = codes "journal full\n"
+ending_line ending.WrongDisk = codes "wrong disk\n"
+ending_line ending.Spent = codes "spent\n"
 
 abbrev pub refusal_status : Refusal → Status
 refusal_status (refusal.Line n) = BadSchedule
@@ -119,6 +157,12 @@ status_of ending.ReadFault = ReadFault
 status_of ending.TooLong = TooLong
 status_of (ending.Refused r) = refusal_status r
 status_of ending.WriteFault = WriteFault
+status_of ending.LinkFault = LinkFault
+status_of ending.DiskFault = DiskFault
+status_of (ending.Damaged who second offset) = Damaged
+status_of ending.JournalFull = JournalFull
+status_of ending.WrongDisk = WrongDisk
+status_of ending.Spent = Spent
 
 -- the line of the status was added, where it can be told
 abbrev pub TellsLine : Answered → Option (List ℕ) → Option (List ℕ) → Option (List ℕ) → Status → Type 0
@@ -126,14 +170,41 @@ TellsLine answered input before after BadSchedule =
     IfSome input (λ text. Appends before after (status_line BadSchedule (answered text)))
 TellsLine answered input before after BadConfig =
     IfSome input (λ text. Appends before after (status_line BadConfig (answered text)))
+TellsLine answered input before after Damaged =
+    IfSome input (λ text. IsOkAnd (answered text) (TellsDamage before after))
 TellsLine answered input before after status = Appends before after (status_line status (Err no_form))
 
 -- ---- which ending says what
 
 -- why the text was refused is why it has no answer
-abbrev pub FirstIs : Ending → Result (List ℕ) NoAnswer → Type 0
+abbrev pub FirstIs : Ending → Result Task NoAnswer → Type 0
 FirstIs (ending.Refused r) answer = RefusedBy r answer
 FirstIs other answer = Unit {0}
+
+-- a damaged disk is one of the node that is to be served
+abbrev pub DamageIsOf : NodeId → Result Task NoAnswer → Type 0
+DamageIsOf who (Ok (serve cfg node turns)) = who ≡ node
+DamageIsOf who (Ok (write lines)) = ⊥
+DamageIsOf who (Err e) = ⊥
+
+abbrev pub DamageIn : Ending → Result Task NoAnswer → Type 0
+DamageIn (ending.Damaged who second offset) answer = DamageIsOf who answer
+DamageIn other answer = Unit {0}
+
+-- what was answered was no text, for this reason
+abbrev pub RefusedAs : Ending → Result (String Global) Refusal → Type 0
+RefusedAs (ending.Refused r) answer = answer ≡ Err r
+RefusedAs ending.Done answer = IsOk answer
+RefusedAs ending.WriteFault answer = IsOk answer
+RefusedAs other answer = ⊥
+
+-- What an ending says of the answer and of what was written.
+abbrev pub Says : (before after : Option (List ℕ)) → Result Task NoAnswer → Ending → Type 0
+Says before after answer ending.Done = IsOkAnd answer (Writes before after)
+Says before after answer ending.WriteFault = IsOkAnd answer (WritesFront before after)
+Says before after answer (ending.Refused r) = RefusedBy r answer
+Says before after answer (ending.Damaged who second offset) = DamageIsOf who answer
+Says before after answer other = Unit {0}
 
 -- endings that write nothing
 abbrev pub IsRefusal : Ending → Type 0
@@ -141,16 +212,51 @@ IsRefusal ending.Done = ⊥
 IsRefusal ending.WriteFault = ⊥
 IsRefusal other = Unit {0}
 
+-- refusals for what the text is
+abbrev pub JudgesBy : Refusal → Type 0
+JudgesBy refusal.NoMemory = ⊥
+JudgesBy other = Unit {0}
+
+-- endings that come before a host is asked for anything
+abbrev pub LeavesHost : Ending → Type 0
+LeavesHost ending.Usage = Unit {0}
+LeavesHost ending.TooLong = Unit {0}
+LeavesHost ending.ReadFault = Unit {0}
+LeavesHost (ending.Refused r) = JudgesBy r
+LeavesHost other = ⊥
+
+-- No host is asked for anything: the job isn't a node's, or it ends before.
+abbrev pub StaysAway : Option Job → Ending → Type 0
+StaysAway None e = Unit {0}
+StaysAway (Some Replay) e = Unit {0}
+StaysAway (Some Check) e = Unit {0}
+StaysAway (Some (Generate number count)) e = Unit {0}
+StaysAway (Some (Node role index turns)) e = LeavesHost e
+
+-- endings of jobs that aren't a node's
+abbrev pub OfText : Ending → Type 0
+OfText ending.LinkFault = ⊥
+OfText ending.DiskFault = ⊥
+OfText (ending.Damaged who second offset) = ⊥
+OfText ending.JournalFull = ⊥
+OfText ending.WrongDisk = ⊥
+OfText ending.Spent = ⊥
+OfText other = Unit {0}
+
+-- a job that isn't a node's doesn't end as one
+abbrev pub EndsBy : Option Job → Ending → Type 0
+EndsBy None e = OfText e
+EndsBy (Some Replay) e = OfText e
+EndsBy (Some Check) e = OfText e
+EndsBy (Some (Generate number count)) e = OfText e
+EndsBy (Some (Node role index turns)) e = Unit {0}
+
 -- endings that come once the input is read
 abbrev pub AfterReading : Ending → Type 0
 AfterReading ending.Usage = ⊥
 AfterReading ending.ReadFault = ⊥
 AfterReading ending.TooLong = ⊥
 AfterReading other = Unit {0}
-
-abbrev pub JudgesBy : Refusal → Type 0
-JudgesBy refusal.NoMemory = ⊥
-JudgesBy other = Unit {0}
 
 -- endings that say what the text of the input is
 abbrev pub JudgesText : Ending → Type 0
@@ -178,3 +284,82 @@ abbrev pub IsDone : Status → Type 0
 IsDone Done = Unit {0}
 IsDone NoMemory = Unit {0}
 IsDone other = ⊥
+
+-- the node was run, and that ended so, unless memory ran out
+abbrev pub IsRun : Status → Type 0
+IsRun Done = Unit {0}
+IsRun NoMemory = Unit {0}
+IsRun LinkFault = Unit {0}
+IsRun DiskFault = Unit {0}
+IsRun Damaged = Unit {0}
+IsRun JournalFull = Unit {0}
+IsRun WrongDisk = Unit {0}
+IsRun Spent = Unit {0}
+IsRun other = ⊥
+
+-- the same, of the job
+abbrev pub IsDoneBy : Option Job → Status → Type 0
+IsDoneBy None status = IsDone status
+IsDoneBy (Some Replay) status = IsDone status
+IsDoneBy (Some Check) status = IsDone status
+IsDoneBy (Some (Generate number count)) status = IsDone status
+IsDoneBy (Some (Node role index turns)) status = IsRun status
+
+-- statuses of jobs that aren't a node's
+abbrev pub IsOfText : Status → Type 0
+IsOfText LinkFault = ⊥
+IsOfText DiskFault = ⊥
+IsOfText Damaged = ⊥
+IsOfText JournalFull = ⊥
+IsOfText WrongDisk = ⊥
+IsOfText Spent = ⊥
+IsOfText other = Unit {0}
+
+-- a job that isn't a node's has no status of one
+abbrev pub HasStatusBy : Option Job → Status → Type 0
+HasStatusBy None status = IsOfText status
+HasStatusBy (Some Replay) status = IsOfText status
+HasStatusBy (Some Check) status = IsOfText status
+HasStatusBy (Some (Generate number count)) status = IsOfText status
+HasStatusBy (Some (Node role index turns)) status = Unit {0}
+
+-- statuses that come before a host is asked for anything
+abbrev pub IsBeforeHost : Status → Type 0
+IsBeforeHost Usage = Unit {0}
+IsBeforeHost ReadFault = Unit {0}
+IsBeforeHost TooLong = Unit {0}
+IsBeforeHost BadConfig = Unit {0}
+IsBeforeHost BadSchedule = Unit {0}
+IsBeforeHost other = ⊥
+
+-- no host is asked for anything: the job isn't a node's, or its status comes before
+abbrev pub NeedsNoHost : Option Job → Status → Type 0
+NeedsNoHost None status = Unit {0}
+NeedsNoHost (Some Replay) status = Unit {0}
+NeedsNoHost (Some Check) status = Unit {0}
+NeedsNoHost (Some (Generate number count)) status = Unit {0}
+NeedsNoHost (Some (Node role index turns)) status = IsBeforeHost status
+
+-- ---- the run of a node
+
+-- a node is to be served, and this is so of it
+abbrev pub IfServed : Result Task NoAnswer → (ConfigParts → NodeId → ℕ → Type 0) → Type 0
+IfServed (Ok (write lines)) P = Unit {0}
+IfServed (Ok (serve cfg who turns)) P = P cfg who turns
+IfServed (Err e) P = Unit {0}
+
+-- statuses that come once the input is read
+abbrev pub IsAfterReading : Status → Type 0
+IsAfterReading Usage = ⊥
+IsAfterReading ReadFault = ⊥
+IsAfterReading TooLong = ⊥
+IsAfterReading other = Unit {0}
+
+-- The node was run, its end is the program's, and the line of that end stands on the error stream where it took it.
+pub record NodeEnds (cfg : ConfigParts) (who : NodeId) (turns : ℕ) (times later : Option (List ℕ))
+    (calls calls_now : Option (List HostCall)) (before after : Option (List ℕ)) (faults faults_now : ℕ)
+    (said said_now : Option (List ℕ)) (status : Status) : Type 0 where
+  pub end : Ending
+  pub ran : NodeRan cfg who turns times later calls calls_now before after end
+  pub is : status ≡ status_of end
+  pub line : ¬ (Rose faults faults_now) → Appends said said_now (ending_line end)

@@ -10,7 +10,7 @@ use vip_config::{Config, Counts};
 
 /// Appends ` NAME N`.
 #[tactic(auto, unfolding(crate::specs::Answers::count))]
-fn write_count(line: &mut String, name: &str, number: u64) -> Result<(), AllocError>
+pub fn write_count(line: &mut String, name: &str, number: u64) -> Result<(), AllocError>
     ensures { OnOk result (string_bytes line.new ≡ string_bytes line.old ++ count name.now number) }
 {
     write!(line, " {name} {number}")

@@ -1,13 +1,16 @@
-ghost use Rattle.std.specs.Prelude.{◌≡◌, ◌++◌, OnErr, OnOk, codes};
+ghost use Rattle.std.specs.Prelude.{◌≡◌, ◌≤◌, ◌++◌, OnErr, OnOk, codes};
 ghost use Rattle.std.specs.Fmt.{decimal};
 ghost use Rattle.std.specs.Io.KnownBytes.{Appends};
 ghost use Rattle.outside_io.specs.Faults.{Rose};
+ghost use Rattle.ananta_top.specs.Node.{damaged_line, disk_letter, offset_line};
 ghost use Rattle.ananta_top.specs.Run.{ending_line, refusal_line, refusal_status, status_of};
+ghost use Rattle.node_run.specs.Names.{node_name};
 
 use crate::refusal::Refusal;
 use itoa::Buffer;
 use outside_io::{Failed, Sink};
 use sink_text::write_all;
+use wire_core::NodeId;
 
 /// How a run ended. The numbers are the program's exit statuses.
 #[derive(Clone, Copy, Debug, PartialEq, Eq)]
@@ -26,11 +29,23 @@ pub enum Status {
     ReadFault = 6,
     /// A write of the output failed.
     WriteFault = 7,
+    /// The host had no link at the node's socket, or the link failed to say what came.
+    LinkFault = 8,
+    /// The host had no disk of a name that it was asked for, or a call of a disk failed.
+    DiskFault = 9,
+    /// A journal isn't of its form, or has an entry of another role.
+    Damaged = 10,
+    /// An entry would make a journal longer than 1,073,741,824 bytes.
+    JournalFull = 11,
     /// There was no memory.
     NoMemory = 12,
+    /// The journal is another node's.
+    WrongDisk = 13,
+    /// The journal's boot is the last number that there is, 18,446,744,073,709,551,615.
+    Spent = 14,
 }
 
-/// How a run ended, with why a text has no answer.
+/// How a run ended, with why a text has no answer, and where a disk is damaged.
 #[derive(Debug, Drop)]
 pub enum Ending {
     Done,
@@ -39,6 +54,17 @@ pub enum Ending {
     ReadFault,
     WriteFault,
     Refused(Refusal),
+    LinkFault,
+    DiskFault,
+    /// A file of this node: whether it is the second one, and the offset in it, in bytes.
+    Damaged {
+        node: NodeId,
+        second: bool,
+        offset: u64,
+    },
+    JournalFull,
+    WrongDisk,
+    Spent,
 }
 
 /// Writes `schedule line N`.
@@ -51,6 +77,86 @@ fn report_line<K: Sink>(err: &mut K, number: u64) -> Result<(), Failed>
     let mut digits = Buffer::new();
     write_all(err, digits.format(number).as_bytes())?;
     write_all(err, b"\n")?;
+    Ok(())
+}
+
+/// Writes a number.
+fn report_number<K: Sink>(err: &mut K, number: u64) -> Result<(), Failed>
+    ensures ok { OnOk result (Appends (K.written err.old) (K.written err.new) (decimal number)) }
+    ensures err { OnErr result (Rose (K.faults err.old) (K.faults err.new)) }
+    ensures later { K.faults err.old ≤ K.faults err.new }
+{
+    let mut digits = Buffer::new();
+    write_all(err, digits.format(number).as_bytes())
+}
+
+/// Writes a role with its dash, and a number.
+fn report_role<K: Sink>(err: &mut K, role: &str, number: u64) -> Result<(), Failed>
+    ensures ok { OnOk result (Appends (K.written err.old) (K.written err.new) (role.now ++ decimal number)) }
+    ensures err { OnErr result (Rose (K.faults err.old) (K.faults err.new)) }
+    ensures later { K.faults err.old ≤ K.faults err.new }
+{
+    write_all(err, role.as_bytes())?;
+    report_number(err, number)?;
+    Ok(())
+}
+
+/// Writes the name of a node, such as `mux-0`.
+fn report_node<K: Sink>(err: &mut K, node: NodeId) -> Result<(), Failed>
+    ensures ok { OnOk result (Appends (K.written err.old) (K.written err.new) (node_name node)) }
+    ensures err { OnErr result (Rose (K.faults err.old) (K.faults err.new)) }
+    ensures later { K.faults err.old ≤ K.faults err.new }
+{
+    match node {
+        NodeId::Replica(index) => report_role(err, "replica-", u64::from(index)),
+        NodeId::Mux(index) => report_role(err, "mux-", u64::from(index)),
+        NodeId::Agent(index) => report_role(err, "agent-", u64::from(index)),
+    }
+}
+
+/// Which of a node's two disks.
+fn disk_letter(second: bool) -> &'static [u8]
+    ensures { result.now ≡ disk_letter second }
+{
+    if second { b"-b" } else { b"-a" }
+}
+
+/// Writes the name of a node's disk, such as `mux-0-a`.
+fn report_disk<K: Sink>(err: &mut K, node: NodeId, second: bool) -> Result<(), Failed>
+    ensures ok { OnOk result (Appends (K.written err.old) (K.written err.new)
+        (node_name node ++ disk_letter second)) }
+    ensures err { OnErr result (Rose (K.faults err.old) (K.faults err.new)) }
+    ensures later { K.faults err.old ≤ K.faults err.new }
+{
+    report_node(err, node)?;
+    write_all(err, disk_letter(second))?;
+    Ok(())
+}
+
+/// Writes ` OFFSET`, and ends the line.
+fn report_offset<K: Sink>(err: &mut K, offset: u64) -> Result<(), Failed>
+    ensures ok { OnOk result (Appends (K.written err.old) (K.written err.new) (offset_line offset)) }
+    ensures err { OnErr result (Rose (K.faults err.old) (K.faults err.new)) }
+{
+    write_all(err, b" ")?;
+    report_number(err, offset)?;
+    write_all(err, b"\n")?;
+    Ok(())
+}
+
+/// Writes `damaged FILE OFFSET`.
+fn report_damage<K: Sink>(
+    err: &mut K,
+    node: NodeId,
+    second: bool,
+    offset: u64,
+) -> Result<(), Failed>
+    ensures ok { OnOk result (Appends (K.written err.old) (K.written err.new) (damaged_line node second offset)) }
+    ensures err { OnErr result (Rose (K.faults err.old) (K.faults err.new)) }
+{
+    write_all(err, b"damaged ")?;
+    report_disk(err, node, second)?;
+    report_offset(err, offset)?;
     Ok(())
 }
 
@@ -91,6 +197,16 @@ pub fn report<K: Sink>(err: &mut K, ending: &Ending) -> Result<(), Failed>
         Ending::ReadFault => write_all(err, b"read fault\n"),
         Ending::WriteFault => write_all(err, b"write fault\n"),
         Ending::Refused(refusal) => report_refusal(err, refusal),
+        Ending::LinkFault => write_all(err, b"link fault\n"),
+        Ending::DiskFault => write_all(err, b"disk fault\n"),
+        Ending::Damaged {
+            node,
+            second,
+            offset,
+        } => report_damage(err, *node, *second, *offset),
+        Ending::JournalFull => write_all(err, b"journal full\n"),
+        Ending::WrongDisk => write_all(err, b"wrong disk\n"),
+        Ending::Spent => write_all(err, b"spent\n"),
     }
 }
 
@@ -115,5 +231,11 @@ pub fn status_of(ending: &Ending) -> Status
         Ending::ReadFault => Status::ReadFault,
         Ending::WriteFault => Status::WriteFault,
         Ending::Refused(refusal) => refusal_status(refusal),
+        Ending::LinkFault => Status::LinkFault,
+        Ending::DiskFault => Status::DiskFault,
+        Ending::Damaged { .. } => Status::Damaged,
+        Ending::JournalFull => Status::JournalFull,
+        Ending::WrongDisk => Status::WrongDisk,
+        Ending::Spent => Status::Spent,
     }
 }

@@ -4,9 +4,9 @@
 //! | module | what it does |
 //! |---|---|
 //! | `streams` | reads a source to its end |
-//! | `words` | which job the words name |
-//! | `answers` | what each job answers to a text |
-//! | `check` | the command `check` |
+//! | `words`, `role` | which job the words name, and of which node |
+//! | `answers`, `check` | what a job answers to a text |
+//! | `node` | a node is served, and told in one line |
 //! | `refusal`, `ending` | why a text has no answer, how a run ends, what is told about it |
 //! | `top` | the whole: words, input, job, answer |
 //!
@@ -16,7 +16,9 @@
 mod answers;
 mod check;
 mod ending;
+mod node;
 mod refusal;
+mod role;
 mod streams;
 mod top;
 mod words;
@@ -24,5 +26,7 @@ mod words;
 pub use ending::Status;
 pub use top::run;
 
+#[cfg(test)]
+mod node_tests;
 #[cfg(test)]
 mod tests;

@@ -20,7 +20,7 @@ const LEASED: &[u8] =
     b"leased 1 1024\nleased 17 1032\nexhausted 33\nfreed 17\nunknown 17\nleased 65 1032\n";
 
 /// A configuration of one mux, one agent with one machine, and one VIP.
-const SMALL: &str = r#"{"version":1,"router":"10.7.0.1:7000",
+pub const SMALL: &str = r#"{"version":1,"router":"10.7.0.1:7000",
   "replicas":["10.0.0.1:7000","10.0.0.2:7000","10.0.0.3:7000","10.0.0.4:7000","10.0.0.5:7000"],
   "muxes":["10.9.0.1:7000"],
   "agents":[{"socket":"10.8.0.1:7000","machines":[{"address":"10.1.0.4","attach":"10.1.0.4:9000"}]}],
@@ -180,6 +180,20 @@ fn words_of_no_form(rt: HostRuntime) -> Result<(), Fail> {
         &["generate", "18446744073709551616", "0"],
         &["generate", "7", "99997"],
         &["generate", "7", "00"],
+        &["node"],
+        &["node", "mux", "0"],
+        &["node", "mux", "0", "--turns"],
+        &["node", "mux", "--turns=1", "0"],
+        &["node", "mux", "--turns", "1", "0"],
+        &["node", "mux", "0", "--turns", "1", "1"],
+        &["node", "mux", "0", "--turns", "01"],
+        &["node", "mux", "0", "--turns", "18446744073709551616"],
+        &["node", "mux", "00", "--turns", "1"],
+        &["node", "mux", "0", "--turns="],
+        &["node", "Mux", "0", "--turns=1"],
+        &["node", "router", "0", "--turns=1"],
+        &["node", "--turns=1", "--turns=1", "mux", "0"],
+        &["nodes", "mux", "0", "--turns=1"],
     ] {
         let mut input = MemSource::new(LEASES.to_vec(alloc)?, Vec::new(alloc));
         let ran = run_over(alloc, words, &mut input, &[])?;
