@@ -1,0 +1,4 @@
+pub mod Halves
+pub mod Schedule
+pub mod Roles
+pub mod Answers
