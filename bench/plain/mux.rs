@@ -1,4 +1,5 @@
-//! A mux in ordinary Rust: the same tests of a packet, a hash map for each table, flows in the order of their last packets.
+//! A mux in ordinary Rust: the same tests of a packet, a hash map for each table, and flows in the order of their last
+//! packets.
 use crate::aimed::VIP;
 use crate::maps::{HashMap, HashSet};
 use crate::packet::{self, Key};
