@@ -1,5 +1,5 @@
 -- A lease that was acknowledged is kept, given back, or of an earlier boot.
-use Rattle.std.proofs.Common.{◌≡◌, refl, sym, ap, subst, ◌∙◌, ◌⊎◌, inl, inr, ℕ, ◌+◌, ◌*◌, ◌<◌, ◌≤◌, length, arith}
+use Rattle.std.proofs.Common.{◌≡◌, refl, sym, ap, subst, ◌∙◌, inl, inr, ℕ, ◌+◌, ◌*◌, ◌<◌, ◌≤◌, length, arith}
 use Rattle.wire_core.specs.Commands.{IsAllowed, LogCommand, Reserve, Granted, Release, Freed, Up}
 use Rattle.wire_core.specs.Members.{In, Each}
 use Rattle.wire_core.specs.Ranges.{range_at}

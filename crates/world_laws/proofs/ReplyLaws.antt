@@ -2,13 +2,13 @@
 -- them, and its port is no endpoint's.
 use Rattle.std.proofs.Common.{◌≡◌, refl, sym, ap, subst, ◌∙◌, ◌⊎◌, inl, inr, ℕ, zero, suc, ◌+◌, ◌-◌, ◌%◌}
 use Rattle.std.proofs.Common.{◌≤◌, Bool, true}
-use Rattle.std.proofs.Common.{false, not, List, [], ◌∷◌, ◌++◌, map, Option, Some, None, arith}
-use Rattle.std.specs.Prelude.{◌==◌, ◌&&◌, ◌||◌, nat_le, slice_get, slice_index_or, Result, Ok, Err, if◌then◌else◌, find}
-use Rattle.std.specs.List.{flat_map, list_any}
+use Rattle.std.proofs.Common.{false, not, List, [], ◌∷◌, map, Option, Some, None, arith}
+use Rattle.std.specs.Prelude.{◌==◌, ◌&&◌, ◌||◌, nat_le, slice_get, slice_index_or, Result, Ok, if◌then◌else◌, find}
+use Rattle.std.specs.List.{list_any}
 use Rattle.std.proofs.lemmas.Bool.Decides.{nat_tests}
 use Rattle.wire_core.proofs.SameLaws.{ip_is, key_is}
 use Rattle.wire_core.specs.Flows.{reverse}
-use Rattle.wire_core.specs.Members.{In, Each}
+use Rattle.wire_core.specs.Members.{In}
 use Rattle.wire_core.specs.Ranges.{allows, has_port, is_leasable, range_of}
 use Rattle.wire_core.specs.Same.{same_ip}
 use Rattle.wire_core.specs.declared.address.Ip4.{Ip4}
@@ -49,7 +49,7 @@ use Rattle.world_spec.specs.Views.{conns, conns_of}
 use Rattle.world_spec.specs.World.{Site, World, at, nobody, site}
 use Rattle.world_laws.specs.Agents.{AgentIsRight}
 use Rattle.world_laws.specs.Hearing.{IsSound}
-use Rattle.world_laws.specs.Replies.{IsReply, RepliesReachTheirMachine, brings, handed}
+use Rattle.world_laws.specs.Replies.{RepliesReachTheirMachine, brings, handed}
 use Rattle.world_laws.specs.Safety.{outer_end}
 use Rattle.world_laws.proofs.AgentLaws.{agents_at}
 use Rattle.world_laws.proofs.Ends.{at_place, conns_apart, from_flat, image_of, in_flat}

@@ -1,5 +1,5 @@
 -- Every moment of a schedule is a world of basic events that a schedule may name, so it is safe.
-use Rattle.std.proofs.Common.{◌≡◌, refl, sym, subst, ℕ, zero, suc, List, [], ◌∷◌, ◌++◌, Option, Some, None}
+use Rattle.std.proofs.Common.{◌≡◌, refl, sym, subst, ℕ, zero, suc, List, [], ◌∷◌, Option, Some, None}
 use Rattle.std.specs.Prelude.{Ok, take}
 use Rattle.wire_core.specs.Members.{Each}
 use Rattle.vip_config.specs.declared.parts.ConfigParts.{ConfigParts}
@@ -23,7 +23,7 @@ use Rattle.world_laws.proofs.Leased.{held_are_leased}
 use Rattle.world_laws.proofs.ReplyLaws.{replies_reach}
 use Rattle.world_laws.specs.Hearing.{IsSound}
 use Rattle.world_laws.specs.Safety.{ConnsAreApart}
-use Rattle.world_safety.specs.Safety.{IsAlwaysSafe, IsSafe, moment}
+use Rattle.world_safety.specs.Safety.{IsAlwaysSafe, IsSafe}
 
 -- ---- a world that is reached
 

@@ -1,5 +1,5 @@
 -- A world of real nodes has the ranges and connections of the world by the tables for which it stands.
-use Rattle.std.proofs.Common.{◌≡◌, refl, sym, ap, subst, ◌∙◌, ℕ, List, [], ◌∷◌, ◌++◌, map, Option, Some, None}
+use Rattle.std.proofs.Common.{◌≡◌, refl, sym, ap, subst, ◌∙◌, List, [], ◌∷◌, ◌++◌, map, Option, Some, None}
 use Rattle.std.specs.Prelude.{fold, is_some, option_map}
 use Rattle.std.specs.List.{flat_map}
 use Rattle.wire_core.specs.Members.{Each}
@@ -17,7 +17,6 @@ use Rattle.world_spec.specs.World.{Site, World, is_there, first_world as first_o
 use Rattle.world_spec.specs.declared.views.Held.{Held}
 use Rattle.world_laws.specs.Safety.{IsHeld, inner_end, outer_end, range_held}
 use Rattle.world_laws.specs.Hearing.{IsSound}
-use Rattle.world_model.specs.Firsts.{first_world}
 use Rattle.world_model.specs.Shown.{FollowsTables, StandsFor, shown, shown_site}
 use Rattle.world_model.specs.Sites.{Deciding, Opening, SiteState}
 use Rattle.world_model.specs.World as model
