@@ -7,13 +7,13 @@ use Rattle.outside_io.specs.Faults.{Rose}
 use Rattle.outside_io.specs.Host.{HostCall}
 use Rattle.ananta_top.specs.Answers.{Task, write, serve, NoAnswer, answer_of, bad_config, bad_line, no_form}
 use Rattle.ananta_top.specs.Node.{NodeRan, damaged_line}
-use Rattle.ananta_top.specs.Run.{AfterReading, DamageIn, DamageIsOf, EndsBy, FirstIs, HasStatusBy, IfServed, IsAfterReading, IsAnswerable, IsBeforeHost, IsDoneBy, IsOfText, IsTooLong, LeavesHost, NeedsNoHost, NodeEnds, OfText, StaysAway, TellsDamage, TellsLine, ending_line, first_fault, no_answer_line, status_of}
+use Rattle.ananta_top.specs.Run.{AfterReading, DamageIn, DamageIsOf, EndsBy, FirstIs, HasStatusBy, IfServed, IsAfterReading, IsAnswerable, IsBeforeHost, IsDoneBy, IsOfSchedule, IsOfText, IsTooLong, LeavesHost, NeedsNoHost, NodeEnds, OfSchedule, OfText, StaysAway, TellsDamage, TellsLine, ending_line, first_fault, no_answer_line, status_of}
 use Rattle.ananta_top.specs.declared.ending.Ending.{Ending}
 use Rattle.ananta_top.specs.declared.ending.Ending.TheVariants as ending
 use Rattle.ananta_top.specs.declared.ending.Status.TheVariants as status
 use Rattle.ananta_top.specs.declared.refusal.Refusal.TheVariants as refusal
 use Rattle.ananta_top.specs.declared.words.Job.{Job}
-use Rattle.ananta_top.specs.declared.words.Job.TheVariants.{Replay, Check, Generate, Node}
+use Rattle.ananta_top.specs.declared.words.Job.TheVariants.{Replay, Summary, Check, Generate, Node}
 use Rattle.ananta_top.proofs.Ran.{damage_told}
 
 -- ---- which statuses come
@@ -35,10 +35,28 @@ of_text ending.JournalFull k = absurd k
 of_text ending.WrongDisk k = absurd k
 of_text ending.Spent k = absurd k
 
+of_schedule : (e : Ending) → OfSchedule e → IsOfSchedule (status_of e)
+of_schedule ending.Done k = tt
+of_schedule ending.Usage k = tt
+of_schedule ending.TooLong k = tt
+of_schedule ending.ReadFault k = tt
+of_schedule ending.WriteFault k = tt
+of_schedule (ending.Refused (refusal.Line n)) k = tt
+of_schedule (ending.Refused refusal.Json) k = tt
+of_schedule (ending.Refused (refusal.Field path)) k = tt
+of_schedule (ending.Refused refusal.NoMemory) k = tt
+of_schedule ending.LinkFault k = absurd k
+of_schedule ending.DiskFault k = absurd k
+of_schedule (ending.Damaged who second offset) k = absurd k
+of_schedule ending.JournalFull k = tt
+of_schedule ending.WrongDisk k = absurd k
+of_schedule ending.Spent k = absurd k
+
 -- A job that isn't a node's has no status of one.
 pub status_by : (o : Option Job) (e : Ending) → EndsBy o e → HasStatusBy o (status_of e)
 status_by None e k = of_text e k
-status_by (Some Replay) e k = of_text e k
+status_by (Some Replay) e k = of_schedule e k
+status_by (Some Summary) e k = of_schedule e k
 status_by (Some Check) e k = of_text e k
 status_by (Some (Generate number count)) e k = of_text e k
 status_by (Some (Node role index turns)) e k = tt
@@ -64,6 +82,7 @@ leaves ending.Spent k = absurd k
 pub stays_away : (o : Option Job) (e : Ending) → NeedsNoHost o (status_of e) → StaysAway o e
 stays_away None e k = tt
 stays_away (Some Replay) e k = tt
+stays_away (Some Summary) e k = tt
 stays_away (Some Check) e k = tt
 stays_away (Some (Generate number count)) e k = tt
 stays_away (Some (Node role index turns)) e k = leaves e k
@@ -73,6 +92,7 @@ stays_away (Some (Node role index turns)) e k = leaves e k
 done : (o : Option Job) → IsDoneBy o status.Done
 done None = tt
 done (Some Replay) = tt
+done (Some Summary) = tt
 done (Some Check) = tt
 done (Some (Generate number count)) = tt
 done (Some (Node role index turns)) = tt
@@ -80,6 +100,7 @@ done (Some (Node role index turns)) = tt
 no_memory : (o : Option Job) → IsDoneBy o status.NoMemory
 no_memory None = tt
 no_memory (Some Replay) = tt
+no_memory (Some Summary) = tt
 no_memory (Some Check) = tt
 no_memory (Some (Generate number count)) = tt
 no_memory (Some (Node role index turns)) = tt
@@ -87,6 +108,7 @@ no_memory (Some (Node role index turns)) = tt
 no_link : (o : Option Job) → EndsBy o ending.LinkFault → IsDoneBy o status.LinkFault
 no_link None k = absurd k
 no_link (Some Replay) k = absurd k
+no_link (Some Summary) k = absurd k
 no_link (Some Check) k = absurd k
 no_link (Some (Generate number count)) k = absurd k
 no_link (Some (Node role index turns)) k = tt
@@ -94,6 +116,7 @@ no_link (Some (Node role index turns)) k = tt
 no_disk : (o : Option Job) → EndsBy o ending.DiskFault → IsDoneBy o status.DiskFault
 no_disk None k = absurd k
 no_disk (Some Replay) k = absurd k
+no_disk (Some Summary) k = absurd k
 no_disk (Some Check) k = absurd k
 no_disk (Some (Generate number count)) k = absurd k
 no_disk (Some (Node role index turns)) k = tt
@@ -102,13 +125,15 @@ damaged : (o : Option Job) (who : NodeId) (second : Bool) (offset : ℕ) → End
     → IsDoneBy o status.Damaged
 damaged None who second offset k = absurd k
 damaged (Some Replay) who second offset k = absurd k
+damaged (Some Summary) who second offset k = absurd k
 damaged (Some Check) who second offset k = absurd k
 damaged (Some (Generate number count)) who second offset k = absurd k
 damaged (Some (Node role index turns)) who second offset k = tt
 
 full : (o : Option Job) → EndsBy o ending.JournalFull → IsDoneBy o status.JournalFull
 full None k = absurd k
-full (Some Replay) k = absurd k
+full (Some Replay) k = tt
+full (Some Summary) k = tt
 full (Some Check) k = absurd k
 full (Some (Generate number count)) k = absurd k
 full (Some (Node role index turns)) k = tt
@@ -116,6 +141,7 @@ full (Some (Node role index turns)) k = tt
 wrong : (o : Option Job) → EndsBy o ending.WrongDisk → IsDoneBy o status.WrongDisk
 wrong None k = absurd k
 wrong (Some Replay) k = absurd k
+wrong (Some Summary) k = absurd k
 wrong (Some Check) k = absurd k
 wrong (Some (Generate number count)) k = absurd k
 wrong (Some (Node role index turns)) k = tt
@@ -123,6 +149,7 @@ wrong (Some (Node role index turns)) k = tt
 spent : (o : Option Job) → EndsBy o ending.Spent → IsDoneBy o status.Spent
 spent None k = absurd k
 spent (Some Replay) k = absurd k
+spent (Some Summary) k = absurd k
 spent (Some Check) k = absurd k
 spent (Some (Generate number count)) k = absurd k
 spent (Some (Node role index turns)) k = tt

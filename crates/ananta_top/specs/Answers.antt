@@ -1,10 +1,15 @@
 -- What the program's jobs answer to a text.
-use Rattle.std.specs.Prelude.{◌≡◌, ℕ, ◌++◌, if◌then◌else◌, nat_le, List, Option, Some, None, option_map, Result, Ok, Err, codes, String, string_bytes}
+use Rattle.std.specs.Prelude.{◌≡◌, ℕ, ◌++◌, if◌then◌else◌, nat_le, Bool, false, List, [], ◌∷◌, Option, Some, None, option_map, Result, Ok, Err, IsOk, codes, String, string_bytes}
+use Rattle.std.specs.Str.{bytes_eq}
 use Rattle.std.specs.Fmt.{decimal}
 use Rattle.std.specs.declared.alloc.Global.{Global}
 use Rattle.config_text.specs.Faults.{Fault, json, field}
 use Rattle.generated_schedule.specs.Generated.{generated}
+use Rattle.address_text.specs.Fields.{parts}
+use Rattle.node_schedule.specs.Schedule.{NoSchedule, node_lines}
+use Rattle.node_schedule.specs.Schedule as nodes
 use Rattle.plain_schedule.specs.Schedule.{plain_lines}
+use Rattle.transcript_summary.specs.Summary.{summary}
 use Rattle.vip_config.specs.Configs.{config_of}
 use Rattle.vip_config.specs.Leases.{ranges_of}
 use Rattle.vip_config.specs.Queries.{counts_of, socket_of}
@@ -14,11 +19,13 @@ use Rattle.wire_core.specs.declared.node.NodeId.{NodeId}
 use Rattle.wire_core.specs.declared.node.NodeId.TheVariants as id
 use Rattle.ananta_top.specs.declared.refusal.Refusal.{Refusal}
 use Rattle.ananta_top.specs.declared.refusal.Refusal.TheVariants as refusal
+use Rattle.ananta_top.specs.declared.refusal.ReplayFault.{ReplayFault}
+use Rattle.ananta_top.specs.declared.refusal.ReplayFault.TheVariants as replay
 use Rattle.ananta_top.specs.Words.{job_of}
 use Rattle.ananta_top.specs.declared.words.Job.{Job}
 use Rattle.ananta_top.specs.declared.role.NodeRole.{NodeRole}
 use Rattle.ananta_top.specs.declared.role.NodeRole.TheVariants as role
-use Rattle.ananta_top.specs.declared.words.Job.TheVariants.{Replay, Check, Generate, Node}
+use Rattle.ananta_top.specs.declared.words.Job.TheVariants.{Replay, Summary, Check, Generate, Node}
 
 -- what a job has to do
 pub data Task : Type 0 where
@@ -38,9 +45,34 @@ pub data NoAnswer : Type 0 where
 
 -- ---- `replay`
 
-abbrev pub of_schedule : Result (List ℕ) ℕ → Result Task NoAnswer
-of_schedule (Ok lines) = Ok (write lines)
-of_schedule (Err n) = Err (bad_line n)
+abbrev pub begins_plain : List (List ℕ) → Bool
+begins_plain [] = false
+begins_plain (line ∷ lines) = bytes_eq line (codes "plain")
+
+-- the first line is `plain`
+abbrev pub is_plain : List ℕ → Bool
+is_plain text = begins_plain (parts 10 text)
+
+abbrev pub of_plain : Result (List ℕ) ℕ → Result (List ℕ) NoAnswer
+of_plain (Ok lines) = Ok lines
+of_plain (Err n) = Err (bad_line n)
+
+abbrev pub of_nodes : Result (List ℕ) NoSchedule → Result (List ℕ) NoAnswer
+of_nodes (Ok lines) = Ok lines
+of_nodes (Err (nodes.bad_config fault)) = Err (bad_config fault)
+of_nodes (Err (nodes.bad_line n)) = Err (bad_line n)
+
+-- what a schedule prints: a plain one, or one of nodes
+abbrev pub printed : List ℕ → Result (List ℕ) NoAnswer
+printed text = if is_plain text then of_plain (plain_lines text) else of_nodes (node_lines text)
+
+abbrev pub lines_of : Result (List ℕ) NoAnswer → Result Task NoAnswer
+lines_of (Ok lines) = Ok (write lines)
+lines_of (Err why) = Err why
+
+abbrev pub summary_of : Result (List ℕ) NoAnswer → Result Task NoAnswer
+summary_of (Ok lines) = Ok (write (summary lines))
+summary_of (Err why) = Err why
 
 -- ---- `check`
 
@@ -55,11 +87,11 @@ counts_line c ranges =
     ++ count (codes "machines") c.machines ++ count (codes "vips") c.vips
     ++ count (codes "ranges") ranges ++ codes "\n"
 
-abbrev pub summary : ConfigParts → List ℕ
-summary c = counts_line (counts_of c) (ranges_of c)
+abbrev pub config_line : ConfigParts → List ℕ
+config_line c = counts_line (counts_of c) (ranges_of c)
 
 abbrev pub of_config : Result ConfigParts Fault → Result Task NoAnswer
-of_config (Ok c) = Ok (write (summary c))
+of_config (Ok c) = Ok (write (config_line c))
 of_config (Err fault) = Err (bad_config fault)
 
 -- ---- `node`
@@ -96,7 +128,8 @@ of_site role index turns (Err fault) = Err (bad_config fault)
 -- ---- each job
 
 abbrev pub answer : Job → List ℕ → Result Task NoAnswer
-answer Replay text = of_schedule (plain_lines text)
+answer Replay text = lines_of (printed text)
+answer Summary text = summary_of (printed text)
 answer Check text = of_config (config_of text)
 answer (Generate number count) text = Ok (write (generated number count))
 answer (Node role index turns) text = of_site role index turns (config_of text)
@@ -115,6 +148,16 @@ RefusedBy (refusal.Line n) answer = answer ≡ Err (bad_line n)
 RefusedBy refusal.Json answer = answer ≡ Err (bad_config json)
 RefusedBy (refusal.Field path) answer = answer ≡ Err (bad_config (field (string_bytes path)))
 RefusedBy refusal.NoMemory answer = Unit {0}
+
+-- A schedule has no transcript for what its text is; only one that has one fills a journal.
+abbrev pub ReplayFails : ReplayFault → Result Task NoAnswer → Type 0
+ReplayFails (replay.Refused r) answer = RefusedBy r answer
+ReplayFails replay.Full answer = IsOk answer
+
+-- what was replayed is what is to be written
+abbrev pub Replays : Result (String Global) ReplayFault → Result Task NoAnswer → Type 0
+Replays (Ok text) answer = answer ≡ Ok (write (string_bytes text))
+Replays (Err fault) answer = ReplayFails fault answer
 
 -- what was answered is what is to be written
 abbrev pub Answers : Result (String Global) Refusal → Result Task NoAnswer → Type 0

@@ -1,5 +1,5 @@
 -- What the program writes, and when it ends how.
-use Rattle.std.specs.Prelude.{◌≡◌, ℕ, ◌<◌, ◌≤◌, ◌++◌, Bool, List, [], length, take, Option, Some, None, Result, Ok, Err, IfSome, IsOk, IsOkAnd, String, codes, string_bytes}
+use Rattle.std.specs.Prelude.{◌≡◌, ℕ, ◌<◌, ◌≤◌, ◌++◌, Bool, true, false, List, [], length, take, Option, Some, None, Result, Ok, Err, IfSome, IsOk, IsOkAnd, String, codes, string_bytes}
 use Rattle.std.specs.Fmt.{decimal}
 use Rattle.std.specs.declared.alloc.Global.{Global}
 use Rattle.std.specs.Io.KnownBytes.{Appends, IsAtEnd}
@@ -10,12 +10,14 @@ use Rattle.vip_config.specs.declared.parts.ConfigParts.{ConfigParts}
 use Rattle.outside_io.specs.Faults.{Rose}
 use Rattle.outside_io.specs.Host.{HostCall}
 use Rattle.node_run.specs.declared.serving.Served.{Served}
-use Rattle.ananta_top.specs.Answers.{Task, write, serve, NoAnswer, no_form, bad_line, bad_config, RefusedBy}
+use Rattle.ananta_top.specs.Answers.{is_plain, Task, write, serve, NoAnswer, no_form, bad_line, bad_config, RefusedBy}
 use Rattle.ananta_top.specs.Node.{NodeRan, damaged_line, turns_line}
 use Rattle.ananta_top.specs.declared.refusal.Refusal.{Refusal}
 use Rattle.ananta_top.specs.declared.refusal.Refusal.TheVariants as refusal
+use Rattle.ananta_top.specs.declared.refusal.ReplayFault.{ReplayFault}
+use Rattle.ananta_top.specs.declared.refusal.ReplayFault.TheVariants as replay
 use Rattle.ananta_top.specs.declared.words.Job.{Job}
-use Rattle.ananta_top.specs.declared.words.Job.TheVariants.{Replay, Check, Generate, Node}
+use Rattle.ananta_top.specs.declared.words.Job.TheVariants.{Replay, Summary, Check, Generate, Node}
 use Rattle.ananta_top.specs.declared.ending.Ending.{Ending}
 use Rattle.ananta_top.specs.declared.ending.Ending.TheVariants as ending
 use Rattle.ananta_top.specs.declared.ending.Status.{Status}
@@ -66,10 +68,19 @@ IsBadConfig (Err no_form) = ⊥
 IsBadConfig (Err (bad_line n)) = ⊥
 IsBadConfig (Err (bad_config fault)) = Unit {0}
 
+-- Each moment of a plain schedule is safe. Of a schedule of nodes nothing is said yet.
+abbrev pub IsSafeBy : (plain : Bool) → List ℕ → Type 0
+IsSafeBy true text = IsAlwaysSafe text
+IsSafeBy false text = Unit {0}
+
+abbrev pub IsSafeSchedule : List ℕ → Type 0
+IsSafeSchedule text = IsSafeBy (is_plain text) text
+
 -- each moment of a schedule is safe
 abbrev pub IsSafeFor : Option Job → List ℕ → Type 0
 IsSafeFor None text = Unit {0}
-IsSafeFor (Some Replay) text = IsAlwaysSafe text
+IsSafeFor (Some Replay) text = IsSafeSchedule text
+IsSafeFor (Some Summary) text = IsSafeSchedule text
 IsSafeFor (Some Check) text = Unit {0}
 IsSafeFor (Some (Generate number count)) text = Unit {0}
 IsSafeFor (Some (Node role index turns)) text = Unit {0}
@@ -78,6 +89,7 @@ IsSafeFor (Some (Node role index turns)) text = Unit {0}
 abbrev pub IsAtEndFor : Option Job → Option (List ℕ) → Type 0
 IsAtEndFor None left = Unit {0}
 IsAtEndFor (Some Replay) left = IsAtEnd left
+IsAtEndFor (Some Summary) left = IsAtEnd left
 IsAtEndFor (Some Check) left = IsAtEnd left
 IsAtEndFor (Some (Generate number count)) left = Unit {0}
 IsAtEndFor (Some (Node role index turns)) left = IsAtEnd left
@@ -206,6 +218,14 @@ Says before after answer (ending.Refused r) = RefusedBy r answer
 Says before after answer (ending.Damaged who second offset) = DamageIsOf who answer
 Says before after answer other = Unit {0}
 
+-- what was replayed was no text, for this reason
+abbrev pub ReplayedAs : Ending → Result (String Global) ReplayFault → Type 0
+ReplayedAs (ending.Refused r) answer = answer ≡ Err (replay.Refused r)
+ReplayedAs ending.JournalFull answer = answer ≡ Err replay.Full
+ReplayedAs ending.Done answer = IsOk answer
+ReplayedAs ending.WriteFault answer = IsOk answer
+ReplayedAs other answer = ⊥
+
 -- endings that write nothing
 abbrev pub IsRefusal : Ending → Type 0
 IsRefusal ending.Done = ⊥
@@ -229,6 +249,7 @@ LeavesHost other = ⊥
 abbrev pub StaysAway : Option Job → Ending → Type 0
 StaysAway None e = Unit {0}
 StaysAway (Some Replay) e = Unit {0}
+StaysAway (Some Summary) e = Unit {0}
 StaysAway (Some Check) e = Unit {0}
 StaysAway (Some (Generate number count)) e = Unit {0}
 StaysAway (Some (Node role index turns)) e = LeavesHost e
@@ -243,10 +264,16 @@ OfText ending.WrongDisk = ⊥
 OfText ending.Spent = ⊥
 OfText other = Unit {0}
 
+-- endings of a schedule
+abbrev pub OfSchedule : Ending → Type 0
+OfSchedule ending.JournalFull = Unit {0}
+OfSchedule other = OfText other
+
 -- a job that isn't a node's doesn't end as one
 abbrev pub EndsBy : Option Job → Ending → Type 0
 EndsBy None e = OfText e
-EndsBy (Some Replay) e = OfText e
+EndsBy (Some Replay) e = OfSchedule e
+EndsBy (Some Summary) e = OfSchedule e
 EndsBy (Some Check) e = OfText e
 EndsBy (Some (Generate number count)) e = OfText e
 EndsBy (Some (Node role index turns)) e = Unit {0}
@@ -285,6 +312,13 @@ IsDone Done = Unit {0}
 IsDone NoMemory = Unit {0}
 IsDone other = ⊥
 
+-- the schedule was replayed, unless a journal was full or memory ran out
+abbrev pub IsReplayed : Status → Type 0
+IsReplayed Done = Unit {0}
+IsReplayed JournalFull = Unit {0}
+IsReplayed NoMemory = Unit {0}
+IsReplayed other = ⊥
+
 -- the node was run, and that ended so, unless memory ran out
 abbrev pub IsRun : Status → Type 0
 IsRun Done = Unit {0}
@@ -300,7 +334,8 @@ IsRun other = ⊥
 -- the same, of the job
 abbrev pub IsDoneBy : Option Job → Status → Type 0
 IsDoneBy None status = IsDone status
-IsDoneBy (Some Replay) status = IsDone status
+IsDoneBy (Some Replay) status = IsReplayed status
+IsDoneBy (Some Summary) status = IsReplayed status
 IsDoneBy (Some Check) status = IsDone status
 IsDoneBy (Some (Generate number count)) status = IsDone status
 IsDoneBy (Some (Node role index turns)) status = IsRun status
@@ -315,10 +350,16 @@ IsOfText WrongDisk = ⊥
 IsOfText Spent = ⊥
 IsOfText other = Unit {0}
 
+-- statuses of a schedule
+abbrev pub IsOfSchedule : Status → Type 0
+IsOfSchedule JournalFull = Unit {0}
+IsOfSchedule other = IsOfText other
+
 -- a job that isn't a node's has no status of one
 abbrev pub HasStatusBy : Option Job → Status → Type 0
 HasStatusBy None status = IsOfText status
-HasStatusBy (Some Replay) status = IsOfText status
+HasStatusBy (Some Replay) status = IsOfSchedule status
+HasStatusBy (Some Summary) status = IsOfSchedule status
 HasStatusBy (Some Check) status = IsOfText status
 HasStatusBy (Some (Generate number count)) status = IsOfText status
 HasStatusBy (Some (Node role index turns)) status = Unit {0}
@@ -336,6 +377,7 @@ IsBeforeHost other = ⊥
 abbrev pub NeedsNoHost : Option Job → Status → Type 0
 NeedsNoHost None status = Unit {0}
 NeedsNoHost (Some Replay) status = Unit {0}
+NeedsNoHost (Some Summary) status = Unit {0}
 NeedsNoHost (Some Check) status = Unit {0}
 NeedsNoHost (Some (Generate number count)) status = Unit {0}
 NeedsNoHost (Some (Node role index turns)) status = IsBeforeHost status

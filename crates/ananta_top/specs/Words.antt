@@ -7,7 +7,7 @@ use Rattle.address_text.specs.Numbers.{number_of}
 use Rattle.ananta_top.specs.declared.role.NodeRole.{NodeRole}
 use Rattle.ananta_top.specs.declared.role.NodeRole.TheVariants as role
 use Rattle.ananta_top.specs.declared.words.Job.{Job}
-use Rattle.ananta_top.specs.declared.words.Job.TheVariants.{Replay, Check, Generate, Node}
+use Rattle.ananta_top.specs.declared.words.Job.TheVariants.{Replay, Summary, Check, Generate, Node}
 
 -- `replay` or `check`
 abbrev pub job_named : List ℕ → Option Job
@@ -15,6 +15,11 @@ job_named word =
     if bytes_eq word (codes "replay") then Some Replay
     else if bytes_eq word (codes "check") then Some Check
     else None
+
+-- `replay --summary`
+abbrev pub in_two_words : (word next : List ℕ) → Option Job
+in_two_words word next =
+    if bytes_eq word (codes "replay") then if bytes_eq next (codes "--summary") then Some Summary else None else None
 
 -- two decimal numbers without leading zeros: one of 64 bits, and how many lines, at most 99,996
 abbrev pub generate_of : List ℕ → List ℕ → Option Job
@@ -73,11 +78,11 @@ in_five_words word first second third fourth =
 
 -- ---- all words
 
--- the one word `replay` or `check`, `generate` with its two numbers, or `node` with what is behind it
+-- the one word `replay` or `check`, `replay --summary`, `generate` with its two numbers, or `node` with what is behind it
 abbrev pub job_of : List (String Global) → Option Job
 job_of [] = None
 job_of (word ∷ []) = job_named (string_bytes word)
-job_of (word ∷ next ∷ []) = None
+job_of (word ∷ next ∷ []) = in_two_words (string_bytes word) (string_bytes next)
 job_of (word ∷ number ∷ count ∷ []) =
     if bytes_eq (string_bytes word) (codes "generate") then generate_of (string_bytes number) (string_bytes count)
     else None
@@ -91,6 +96,7 @@ job_of (word ∷ first ∷ second ∷ third ∷ fourth ∷ fifth ∷ others) = N
 -- no more lines are asked for than a schedule may have
 abbrev pub IsWithinLines : Job → Type 0
 IsWithinLines Replay = Unit {0}
+IsWithinLines Summary = Unit {0}
 IsWithinLines Check = Unit {0}
 IsWithinLines (Generate number count) = count ≤ 99996
 IsWithinLines (Node role index turns) = Unit {0}
@@ -99,6 +105,7 @@ IsWithinLines (Node role index turns) = Unit {0}
 abbrev pub reads_input : Option Job → Bool
 reads_input None = false
 reads_input (Some Replay) = true
+reads_input (Some Summary) = true
 reads_input (Some Check) = true
 reads_input (Some (Generate number count)) = false
 reads_input (Some (Node role index turns)) = true
@@ -107,6 +114,7 @@ reads_input (Some (Node role index turns)) = true
 abbrev pub text_for : Option Job → Option (List ℕ) → Option (List ℕ)
 text_for None input = input
 text_for (Some Replay) input = input
+text_for (Some Summary) input = input
 text_for (Some Check) input = input
 text_for (Some (Generate number count)) input = Some []
 text_for (Some (Node role index turns)) input = input

@@ -1,6 +1,6 @@
 //! The command `check`: a configuration is read, and told in one line.
 ghost use Rattle.std.specs.Prelude.{◌≡◌, ◌++◌, IfOk, OnOk, string_bytes};
-ghost use Rattle.ananta_top.specs.Answers.{Answers, answer, count, counts_line, summary};
+ghost use Rattle.ananta_top.specs.Answers.{Answers, answer, config_line, count, counts_line};
 ghost use Rattle.ananta_top.specs.declared.words.Job.TheVariants.{Check};
 
 use crate::refusal::Refusal;
@@ -31,8 +31,8 @@ fn counts_line(alloc: Global, counts: &Counts, ranges: u64) -> Result<String, Al
 }
 
 /// The line of a configuration that keeps every rule.
-fn summary(alloc: Global, config: &Config) -> Result<String, AllocError>
-    ensures { IfOk result (λ line. string_bytes line ≡ summary config.now) }
+fn config_line(alloc: Global, config: &Config) -> Result<String, AllocError>
+    ensures { IfOk result (λ line. string_bytes line ≡ config_line config.now) }
 {
     let ranges = config.ranges(alloc)?;
     counts_line(alloc, &config.counts(), ranges)
@@ -43,7 +43,7 @@ pub fn check(alloc: Global, text: &[u8]) -> Result<String, Refusal>
     ensures { Answers result (answer Check text.now) }
 {
     match Config::read(alloc, text) {
-        Ok(config) => match summary(alloc, &config) {
+        Ok(config) => match config_line(alloc, &config) {
             Ok(line) => Ok(line),
             Err(AllocError) => Err(Refusal::NoMemory),
         },

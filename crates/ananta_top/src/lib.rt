@@ -29,4 +29,6 @@ pub use top::run;
 #[cfg(test)]
 mod node_tests;
 #[cfg(test)]
+mod replay_tests;
+#[cfg(test)]
 mod tests;

@@ -28,7 +28,7 @@ pub const SMALL: &str = r#"{"version":1,"router":"10.7.0.1:7000",
   "limit":16,"timers":{"lead_silent":1000,"mux_silent":5000,"ask_retry":500,"flow_idle":60000,"range_idle":30000}}"#;
 
 /// A configuration of two muxes, two agents with one machine each, and one VIP.
-const TWO_MUXES: &str = r#"{"version":1,"router":"10.7.0.1:7000",
+pub const TWO_MUXES: &str = r#"{"version":1,"router":"10.7.0.1:7000",
   "replicas":["10.0.0.1:7000","10.0.0.2:7000","10.0.0.3:7000","10.0.0.4:7000","10.0.0.5:7000"],
   "muxes":["10.9.0.1:7000","10.9.0.2:7000"],
   "agents":[{"socket":"10.8.0.1:7000","machines":[{"address":"10.1.0.4","attach":"10.1.0.4:9000"}]},
@@ -38,14 +38,14 @@ const TWO_MUXES: &str = r#"{"version":1,"router":"10.7.0.1:7000",
 
 /// How a run ended, and what stands on its two sinks.
 #[derive(Drop)]
-struct Ran {
-    status: Status,
-    out: MemSink,
-    err: MemSink,
+pub struct Ran {
+    pub status: Status,
+    pub out: MemSink,
+    pub err: MemSink,
 }
 
 /// Runs over any source, with a sink that takes at most 16 bytes a call.
-fn run_over<S: Source>(
+pub fn run_over<S: Source>(
     alloc: Global,
     line: &[&str],
     input: &mut S,
@@ -65,7 +65,8 @@ fn run_over<S: Source>(
     Ok(Ran { status, out, err })
 }
 
-fn replay(alloc: Global, text: &[u8]) -> Result<Ran, AllocError> {
+/// Replays a text.
+pub fn replay(alloc: Global, text: &[u8]) -> Result<Ran, AllocError> {
     let mut input = MemSource::new(text.to_vec(alloc)?, Vec::new(alloc));
     run_over(alloc, &["replay"], &mut input, &[])
 }
@@ -222,8 +223,6 @@ fn ranges_at_the_edges(rt: HostRuntime) -> Result<(), Fail> {
 #[test]
 fn bad_lines(rt: HostRuntime) -> Result<(), Fail> {
     for (text, wanted) in [
-        ("", "schedule line 1\n"),
-        ("plain \n", "schedule line 1\n"),
         ("plain\n\nvip 1.2.3.4 1025 1031", "schedule line 3\n"),
         ("plain\nask 1.2.3.4 1.2.3.5", "schedule line 2\n"),
         (
@@ -287,7 +286,7 @@ fn as_many_bytes_as_allowed(rt: HostRuntime) -> Result<(), Fail> {
     let alloc = rt.alloc();
     let mut input = LongSource { left: 67_108_864 };
     let ran = run_over(alloc, &["replay"], &mut input, &[])?;
-    assert_eq!(rt; ran.status, Status::BadSchedule);
+    assert_eq!(rt; ran.status, Status::BadConfig);
     let mut input = LongSource { left: 67_108_865 };
     let ran = run_over(alloc, &["replay"], &mut input, &[])?;
     assert_eq!(rt; ran.status, Status::TooLong);

@@ -4,13 +4,13 @@ ghost use Rattle.outside_io.specs.Faults.{Rose};
 ghost use Rattle.ananta_top.specs.Answers.{answer, answered};
 ghost use Rattle.ananta_top.specs.Node.{NodeRan};
 ghost use Rattle.ananta_top.specs.Words.{IsWithinLines, given, job_of, reads_input, text_for};
-ghost use Rattle.ananta_top.specs.Run.{AfterReading, DamageIn, EndsBy, FirstIs, HasStatusBy, IfServed, IsAfterReading, IsAnswerable, IsAtEndFor, IsBadConfig, IsBadSchedule, IsDoneBy, IsRefusal, IsSafeFor, IsTooLong, IsWithin, JudgesInput, JudgesText, NeedsNoHost, NodeEnds, Printed, PrintedFront, RefusedAs, Refuses, StaysAway, TellsLine};
+ghost use Rattle.ananta_top.specs.Run.{AfterReading, DamageIn, EndsBy, FirstIs, HasStatusBy, IfServed, IsAfterReading, IsAnswerable, IsAtEndFor, IsBadConfig, IsBadSchedule, IsDoneBy, IsRefusal, IsSafeFor, IsTooLong, IsWithin, JudgesInput, JudgesText, NeedsNoHost, NodeEnds, Printed, PrintedFront, RefusedAs, Refuses, ReplayedAs, StaysAway, TellsLine};
 
-use crate::answers::{generate, replay};
+use crate::answers::{generate, replay, summarize};
 use crate::check::check;
 use crate::ending::{Ending, Status, report, status_of};
 use crate::node::serve_node;
-use crate::refusal::Refusal;
+use crate::refusal::{Refusal, ReplayFault};
 use crate::streams::{INPUT_LIMIT, InputFault, read_all};
 use crate::words::{Job, job_of};
 use outside_io::{Clock, Failed, Host, Sink, Source};
@@ -33,6 +33,23 @@ fn write_answer<K: Sink>(answer: Result<String, Refusal>, out: &mut K) -> Ending
             Ok(()) => Ending::Done,
             Err(Failed) => Ending::WriteFault,
         },
+    }
+}
+
+/// Writes what a schedule printed.
+fn write_replay<K: Sink>(replayed: Result<String, ReplayFault>, out: &mut K) -> Ending
+    ensures done { result ≡ Ending.Done
+        → IsOkAnd replayed (λ text. Appends (K.written out.old) (K.written out.new) (string_bytes text)) }
+    ensures write { result ≡ Ending.WriteFault → Rose (K.faults out.old) (K.faults out.new) }
+    ensures front { result ≡ Ending.WriteFault → IsOkAnd replayed
+        (λ text. (n : ℕ) × Appends (K.written out.old) (K.written out.new) (take n (string_bytes text))) }
+    ensures refused { ReplayedAs result replayed }
+    ensures kept { IsRefusal result → out.new ≡ out.old }
+{
+    match replayed {
+        Ok(lines) => write_answer(Ok(lines), out),
+        Err(ReplayFault::Refused(refusal)) => Ending::Refused(refusal),
+        Err(ReplayFault::Full) => Ending::JournalFull,
     }
 }
 
@@ -65,7 +82,8 @@ fn respond<K: Sink, H: Host, C: Clock>(
     ensures clock { StaysAway (Some job) result → clock.new ≡ clock.old }
 {
     match job {
-        Job::Replay => write_answer(replay(alloc, text), out),
+        Job::Replay => write_replay(replay(alloc, text), out),
+        Job::Summary => write_replay(summarize(alloc, text), out),
         Job::Check => write_answer(check(alloc, text), out),
         Job::Generate { number, count } => write_answer(generate(alloc, number, count), out),
         Job::Node { role, index, turns } => {
@@ -85,7 +103,7 @@ fn text_for<S: Source>(alloc: Global, job: Job, input: &mut S) -> Result<Vec<u8>
     ensures unread { reads_input (Some job) ≡ false → input.new ≡ input.old }
 {
     match job {
-        Job::Replay | Job::Check | Job::Node { .. } => read_all(alloc, input),
+        Job::Replay | Job::Summary | Job::Check | Job::Node { .. } => read_all(alloc, input),
         Job::Generate { .. } => Ok(Vec::new(alloc)),
     }
 }

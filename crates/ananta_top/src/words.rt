@@ -1,5 +1,5 @@
 ghost use Rattle.std.specs.Prelude.{◌≡◌, IfSome, option_map};
-ghost use Rattle.ananta_top.specs.Words.{IsWithinLines, generate_of, in_five_words, in_four_words, job_named, job_of, node_of, node_of_four, node_of_three, turns_in};
+ghost use Rattle.ananta_top.specs.Words.{IsWithinLines, generate_of, in_five_words, in_four_words, in_two_words, job_named, job_of, node_of, node_of_four, node_of_three, turns_in};
 
 use crate::role::{NodeRole, role_named};
 use address_text::read_number;
@@ -12,6 +12,8 @@ const MAX_COUNT: u64 = 99_996;
 pub enum Job {
     /// `replay`: the input is a schedule.
     Replay,
+    /// `replay --summary`: the same, and what it prints is counted.
+    Summary,
     /// `check`: the input is a configuration.
     Check,
     /// `generate NUMBER COUNT`: the schedule of a number, with so many lines, at most 99,996, behind its opening ones.
@@ -36,6 +38,19 @@ fn job_named(word: &str) -> Option<Job>
     match word {
         "replay" => Some(Job::Replay),
         "check" => Some(Job::Check),
+        _ => None,
+    }
+}
+
+fn in_two_words(word: &str, next: &str) -> Option<Job>
+    ensures value { result ≡ in_two_words word.now next.now }
+    ensures within { IfSome result IsWithinLines }
+{
+    match word {
+        "replay" => match next {
+            "--summary" => Some(Job::Summary),
+            _ => None,
+        },
         _ => None,
     }
 }
@@ -125,6 +140,7 @@ pub fn job_of(words: &[String]) -> Option<Job>
 {
     match words {
         [word] => job_named(word.as_str()),
+        [word, next] => in_two_words(word.as_str(), next.as_str()),
         [word, number, count] => match word.as_str() {
             "generate" => generate_of(number.as_bytes(), count.as_bytes()),
             _ => None,
