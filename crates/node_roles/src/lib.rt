@@ -5,6 +5,12 @@
 //! `specs/Roles`, each by the cases of the role. After want of memory a role isn't used again: its node isn't live.
 #![tactic(auto)]
 
+#[cfg(test)]
+mod host_tests;
+#[cfg(test)]
+mod lives;
 mod role;
+#[cfg(test)]
+mod stories;
 
 pub use role::{Role, RoleNode};
