@@ -17,3 +17,6 @@ pub use endpoints::Endpoints;
 pub use leaving::Leaving;
 pub use ranges::Ranges;
 pub use vips::Vips;
+
+#[cfg(test)]
+mod tests;
