@@ -1,13 +1,4 @@
-pub mod LogLaws
-pub mod QueueLaws
-pub mod TurnLaws
 pub mod Spelled
 pub mod Rooms
 pub mod RowLaws
-pub mod PeerLaws
-pub mod DueLaws
-pub mod ZeroLaws
-pub mod WalkLaws
-pub mod PushLaws
-pub mod PendingLaws
-pub mod QuietLaws
+pub mod OwnerLaws

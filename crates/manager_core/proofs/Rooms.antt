@@ -24,7 +24,7 @@ use Rattle.paxos_spec.specs.Events.{Replica, if_counts, with_seen, on_lead, step
 use Rattle.paxos_spec.specs.Events.{step_at_accepted, step_at_refuse, step_at_chosen, step_at_fetch, step_at_campaign}
 use Rattle.paxos_spec.specs.Events.{step_at_offer}
 use Rattle.manager_spec.proofs.Choices.{by_if}
-use Rattle.manager_core.specs.Log.{HasRoom, HasRoomFor, Fits}
+use Rattle.manager_log.specs.Log.{HasRoom, HasRoomFor, Fits}
 
 none_room : (n : ℕ) → HasRoom n None
 unfolding HasRoom

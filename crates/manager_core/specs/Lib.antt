@@ -1,4 +1,2 @@
-pub mod Log
 pub mod Seen
 pub mod Rows
-pub mod Pending

@@ -1,6 +1,7 @@
 ghost use Rattle.std.specs.Prelude.{◌≡◌, ◌∷◌, [], true, IfOk};
 ghost use Rattle.lease_spec.specs.Table.{last_of, row_at};
-ghost use Rattle.manager_core.specs.Seen.{command_of, halved};
+ghost use Rattle.manager_log.specs.Parts.{command_of};
+ghost use Rattle.manager_core.specs.Seen.{halved};
 ghost use Rattle.manager_spec.specs.Agents.{answer_again, ask_after, deny_again, enqueue, grant_again};
 ghost use Rattle.manager_spec.specs.Agents.{is_outstanding, on_agent_up, on_ask, on_return, return_of, returned};
 ghost use Rattle.manager_spec.specs.Manager.{leases};
@@ -11,9 +12,9 @@ ghost use Rattle.paxos_spec.specs.Leader.{value_out};
 
 use crate::half::{Half, goes_on};
 use crate::manager::Manager;
-use crate::orders::{AT_LIMIT, EXHAUSTED, grant};
-use crate::queue::Request;
+use crate::orders::{AT_LIMIT, EXHAUSTED};
 use control_msg::Message;
+use manager_log::{Request, grant};
 use port_leases::{Outcome, Phase, Row};
 use wire_core::{DropCause, Ip4, NoMemory, NodeId, Step};
 

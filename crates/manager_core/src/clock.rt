@@ -10,8 +10,8 @@ ghost use Rattle.paxos_spec.specs.Replica.{on_campaign};
 
 use crate::half::{Half, goes_on, stops};
 use crate::manager::Manager;
-use crate::saying::say_said;
 use control_msg::Message;
+use manager_log::say_said;
 use node_spec::say_each;
 use wire_core::{NoMemory, Step};
 
@@ -53,7 +53,7 @@ impl Manager {
     }
 
     /// What a primary says at a tick: Lead, what is outstanding again, and the push.
-    #[tactic(auto, using(crate::proofs::TurnLaws::flat_three))]
+    #[tactic(auto, using(manager_log::proofs::TurnLaws::flat_three))]
     fn say_leads(&self, out: &mut Step) -> Result<(), NoMemory>
         requires { self.now.sound ≡ true }
         ensures { OnOk result (out.new ≡ with_sends (flat_map (outgoing self.now.config)
@@ -77,7 +77,7 @@ impl Manager {
     }
 
     /// It runs for election, where a ballot of its own fits.
-    #[tactic(auto, unfolding(crate::specs::Rows::ran, crate::specs::Log::Fits, node_spec::specs::Steps::onto, node_spec::specs::Steps::turned), using(crate::proofs::PendingLaws::current_new, crate::proofs::RowLaws::campaign_row, crate::proofs::Rooms::campaign_fits, crate::proofs::Rooms::fits_room))]
+    #[tactic(auto, unfolding(crate::specs::Rows::ran, manager_log::specs::Log::Fits, node_spec::specs::Steps::onto, node_spec::specs::Steps::turned), using(manager_log::proofs::PendingLaws::current_new, crate::proofs::RowLaws::campaign_row, crate::proofs::Rooms::campaign_fits, crate::proofs::Rooms::fits_room))]
     fn runs(&mut self) -> Result<Step, NoMemory>
         requires sound { self.old.sound ≡ true }
         requires may { is_primary self.old.lists.memory.leader.stage ≡ false }

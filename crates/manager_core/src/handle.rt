@@ -133,7 +133,7 @@ impl Manager {
     }
 
     /// A datagram comes: first, it is a frame. A packet is nothing for a replica.
-    #[tactic(auto, unfolding(manager_spec::specs::ManagerTable::manager_half, node_spec::specs::Datagrams::heard), using(crate::proofs::PeerLaws::owner_below))]
+    #[tactic(auto, unfolding(manager_spec::specs::ManagerTable::manager_half, node_spec::specs::Datagrams::heard), using(crate::proofs::OwnerLaws::owner_below))]
     fn on_datagram(&mut self, from: &Socket, bytes: &[u8]) -> Result<Half, NoMemory>
         requires { self.old.sound ≡ true }
         ensures { IfOk result (λ half. (self.new, half)
@@ -171,7 +171,7 @@ impl Manager {
     }
 
     /// What an input makes of a whole replica: its row, and the proposal where one follows.
-    #[tactic(auto, unfolding(manager_spec::specs::ManagerTable::manager_step, manager_spec::specs::Proposal::whole, crate::specs::Seen::halved, node_spec::specs::Steps::turned), using(crate::proofs::TurnLaws::proposed_onto))]
+    #[tactic(auto, unfolding(manager_spec::specs::ManagerTable::manager_step, manager_spec::specs::Proposal::whole, crate::specs::Seen::halved, node_spec::specs::Steps::turned), using(manager_log::proofs::TurnLaws::proposed_onto))]
     fn take_input(&mut self, input: &Input) -> Result<Step, NoMemory>
         requires { self.old.sound ≡ true }
         ensures { IfOk result (λ step. (self.new, step) ≡ turned (with_lists self.old) self.old.config no_step

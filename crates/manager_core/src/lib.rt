@@ -34,16 +34,12 @@ mod clock;
 mod half;
 mod handle;
 mod leading;
-mod log;
 mod manager;
 mod muxes;
 mod opening;
 mod orders;
-mod pending;
 mod proposal;
 mod push;
-mod queue;
-mod saying;
 mod voting;
 
 pub use manager::Manager;

@@ -1,5 +1,5 @@
-ghost use Rattle.std.specs.Prelude.{◌≡◌, true, IfOk, IfSome, OnOk};
-ghost use Rattle.manager_core.specs.Log.{Fits, HasRoom};
+ghost use Rattle.std.specs.Prelude.{◌≡◌, true, IfOk, OnOk};
+ghost use Rattle.manager_log.specs.Log.{Fits, HasRoom};
 ghost use Rattle.manager_core.specs.Rows.{counted, counted_heard};
 ghost use Rattle.manager_core.specs.Seen.{halved, stepped, taken, with_lists};
 ghost use Rattle.manager_spec.specs.Manager.{agrees, effects_of, hears, leases, rested};
@@ -12,10 +12,7 @@ ghost use Rattle.port_leases.specs.TableState.{row_above};
 ghost use Rattle.vip_config.specs.Leases.{lease_rules_of};
 
 use crate::half::{Half, stops};
-use crate::log::LeaseLog;
-use crate::pending::Pending;
-use crate::queue::Queue;
-use crate::saying::{add_acts, spell};
+use manager_log::{LeaseLog, Pending, Queue, add_acts, spell};
 use manager_spec::{Marks, Peer};
 use paxos_replica::ReplicaStep;
 use paxos_spec::Stage;
@@ -50,8 +47,9 @@ pub struct Manager {
 impl Model for Manager {
     ghost use Rattle.std.specs.Prelude.{◌≡◌, ◌<◌, ◌≤◌, length, true};
     ghost use Rattle.vip_config.specs.Leases.{lease_rules_of};
-    ghost use Rattle.manager_core.specs.Pending.{IsCurrent};
-    ghost use Rattle.manager_core.specs.Seen.{Core, NumberedFrom};
+    ghost use Rattle.manager_log.specs.Pending.{IsCurrent};
+    ghost use Rattle.manager_log.specs.Parts.{NumberedFrom};
+    ghost use Rattle.manager_core.specs.Seen.{Core};
 
     ghost Value = { Core };
 
@@ -98,7 +96,7 @@ impl Manager {
     }
 
     /// A follower has no acknowledgements and no queue.
-    #[tactic(auto, using(crate::proofs::PendingLaws::current_new))]
+    #[tactic(auto, using(manager_log::proofs::PendingLaws::current_new))]
     pub(crate) fn rest(&mut self)
         ensures { self.new ≡ with_lists self.old (rested self.old.lists) }
     {
@@ -192,7 +190,7 @@ impl Manager {
     }
 
     /// The step of an event that may not count; then it is dropped as late.
-    #[tactic(auto, unfolding(crate::specs::Rows::counted, crate::specs::Log::Fits))]
+    #[tactic(auto, unfolding(crate::specs::Rows::counted, manager_log::specs::Log::Fits))]
     pub(crate) fn counted(&mut self, step: Option<ReplicaStep>) -> Result<Step, NoMemory>
         requires sound { self.old.sound ≡ true }
         requires fits { Fits self.old.lists.acceptor step }
@@ -205,7 +203,7 @@ impl Manager {
     }
 
     /// The same, where an entry tells that a leader was heard.
-    #[tactic(auto, unfolding(crate::specs::Rows::counted_heard, crate::specs::Log::Fits))]
+    #[tactic(auto, unfolding(crate::specs::Rows::counted_heard, manager_log::specs::Log::Fits))]
     pub(crate) fn counted_heard(&mut self, step: Option<ReplicaStep>) -> Result<Step, NoMemory>
         requires sound { self.old.sound ≡ true }
         requires fits { Fits self.old.lists.acceptor step }

@@ -1,15 +1,13 @@
 ghost use Rattle.std.specs.Prelude.{◌≡◌, ◌<◌, ◌≤◌, fold, length, true, IfOk, OnOk};
-ghost use Rattle.manager_core.specs.Seen.{NumberedFrom};
+ghost use Rattle.manager_log.specs.Parts.{NumberedFrom};
 ghost use Rattle.manager_spec.specs.Manager.{new_peers, opened_manager};
 ghost use Rattle.node_spec.specs.Bodies.{entries_of, entry_in};
 ghost use Rattle.paxos_spec.specs.Acceptor.{follow, state_of};
 ghost use Rattle.paxos_spec.specs.Replica.{new_memory};
 ghost use Rattle.wire_core.specs.Entries.{read_entry};
 
-use crate::log::LeaseLog;
 use crate::manager::Manager;
-use crate::pending::Pending;
-use crate::queue::Queue;
+use manager_log::{LeaseLog, Pending, Queue};
 use manager_spec::Peer;
 use std::alloc::Global;
 use std::collections::BTreeMap;
@@ -49,7 +47,7 @@ fn recovered(alloc: Global, rules: LeaseRules, bodies: &[EntryBytes]) -> Result<
 }
 
 /// Each configured mux, of which nothing is known.
-#[tactic(auto, using(crate::proofs::PeerLaws::peers_next, crate::proofs::PeerLaws::peers_numbered))]
+#[tactic(auto, using(manager_log::proofs::PeerLaws::peers_next, manager_log::proofs::PeerLaws::peers_numbered))]
 fn unknown_peers(alloc: Global, sockets: &[Socket]) -> Result<Vec<Peer>, NoMemory>
     requires { length sockets.now ≤ 16 }
     ensures peers { IfOk result (λ peers. peers.items ≡ new_peers 0 sockets.now) }

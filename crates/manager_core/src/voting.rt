@@ -1,5 +1,5 @@
 ghost use Rattle.std.specs.Prelude.{◌≡◌, ◌<◌, true, IfOk};
-ghost use Rattle.manager_core.specs.Log.{Fits, HasRoom};
+ghost use Rattle.manager_log.specs.Log.{Fits, HasRoom};
 ghost use Rattle.manager_core.specs.Rows.{tallied};
 ghost use Rattle.manager_core.specs.Seen.{halved, taken};
 ghost use Rattle.manager_spec.specs.Voting.{completes, on_accept, on_accepted, on_chosen, on_fetched};
@@ -46,7 +46,7 @@ impl Manager {
     }
 
     /// The step of an Accepted: with an entry it is the third.
-    #[tactic(auto, unfolding(crate::specs::Rows::tallied, crate::specs::Log::Fits, crate::specs::Seen::halved, node_spec::specs::Steps::turned))]
+    #[tactic(auto, unfolding(crate::specs::Rows::tallied, manager_log::specs::Log::Fits, crate::specs::Seen::halved, node_spec::specs::Steps::turned))]
     fn tallied(&mut self, step: Option<ReplicaStep>) -> Result<Half, NoMemory>
         requires sound { self.old.sound ≡ true }
         requires fits { Fits self.old.lists.acceptor step }

@@ -6,8 +6,8 @@ use Rattle.lease_spec.specs.declared.row.Phase.TheVariants.{Freeing}
 use Rattle.port_leases.specs.TableState.{rows_in}
 use Rattle.manager_spec.specs.Manager.{leases}
 use Rattle.manager_spec.specs.Proposal.{freed_due}
-use Rattle.manager_core.proofs.DueLaws.{full_takes, rest_takes}
-use Rattle.manager_core.proofs.WalkLaws.{freeds_in}
+use Rattle.manager_log.proofs.DueLaws.{full_takes, rest_takes}
+use Rattle.manager_log.proofs.WalkLaws.{freeds_in}
 use Rattle.manager_core.proofs.manager.Manager.add_freeds.Goals as goal
 
 pub loop-self-init : goal.loop-self-init

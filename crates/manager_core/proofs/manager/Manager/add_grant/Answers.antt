@@ -4,7 +4,7 @@ use Rattle.lease_spec.specs.Table.{is_being}
 use Rattle.manager_spec.specs.declared.marks.Marks.{Marks}
 use Rattle.manager_spec.specs.Known.{marks_at, running}
 use Rattle.manager_spec.specs.Proposal.{is_granted, holders, grant_due, mux_boot}
-use Rattle.manager_core.proofs.DueLaws.{granted_none, granted_one}
+use Rattle.manager_log.proofs.DueLaws.{granted_none, granted_one}
 use Rattle.manager_core.proofs.manager.Manager.add_grant.Goals as goal
 
 pub returns-then-not-is_granted : goal.returns-then-not-is_granted

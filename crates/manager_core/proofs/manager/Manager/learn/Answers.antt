@@ -1,8 +1,8 @@
 use Rattle.std.proofs.Common.{rules, ◌≡◌, true}
 use Rattle.vip_config.specs.Leases.{lease_rules_of}
 use Rattle.paxos_spec.specs.Acceptor.{reach}
-use Rattle.manager_core.specs.Log.{HasRoom}
-use Rattle.manager_core.proofs.PendingLaws.{current_kept}
+use Rattle.manager_log.specs.Log.{HasRoom}
+use Rattle.manager_log.proofs.PendingLaws.{current_kept}
 use Rattle.manager_core.proofs.manager.Manager.learn.Goals as goal
 
 pub invariant_of-self : goal.invariant_of-self

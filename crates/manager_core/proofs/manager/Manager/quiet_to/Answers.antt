@@ -3,9 +3,9 @@ use Rattle.vip_config.specs.Leases.{lease_rules_of}
 use Rattle.lease_spec.specs.declared.row.Phase.TheVariants.{Freeing}
 use Rattle.port_leases.specs.TableState.{onward_in, rows_in}
 use Rattle.manager_spec.specs.Manager.{leases}
-use Rattle.manager_core.specs.Pending.{IsCurrent}
-use Rattle.manager_core.proofs.PendingLaws.{current_as}
-use Rattle.manager_core.proofs.QuietLaws.{freeing_above, quiet_less, quiet_walk}
+use Rattle.manager_log.specs.Pending.{IsCurrent}
+use Rattle.manager_log.proofs.PendingLaws.{current_as}
+use Rattle.manager_log.proofs.QuietLaws.{freeing_above, quiet_less, quiet_walk}
 use Rattle.manager_core.proofs.manager.Manager.quiet_to.Goals as goal
 
 pub overflow_sub-result : goal.overflow_sub-result

@@ -1,7 +1,7 @@
 use Rattle.std.proofs.Common.{rules, ◌≡◌, ◌≤◌, ◌<◌, length}
 use Rattle.vip_config.specs.Leases.{lease_rules_of}
-use Rattle.manager_core.specs.Seen.{NumberedFrom}
-use Rattle.manager_core.proofs.PendingLaws.{current_new}
+use Rattle.manager_log.specs.Parts.{NumberedFrom}
+use Rattle.manager_log.proofs.PendingLaws.{current_new}
 use Rattle.manager_core.proofs.manager.Manager.recover.Goals as goal
 
 pub invariant_of-result : goal.invariant_of-result

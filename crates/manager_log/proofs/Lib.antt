@@ -1,0 +1,10 @@
+pub mod LogLaws
+pub mod QueueLaws
+pub mod TurnLaws
+pub mod PeerLaws
+pub mod DueLaws
+pub mod ZeroLaws
+pub mod WalkLaws
+pub mod PushLaws
+pub mod PendingLaws
+pub mod QuietLaws
