@@ -21,8 +21,8 @@ pub enum Act<'a> {
     Deliver(usize, usize),
     /// The datagrams behind the last one that was delivered, and what these bring, till none is left.
     Settle,
-    /// A replica forgets all but its journal.
-    Restart(u8),
+    /// What a replica would be by its journal alone: its rows are written, and what it would make of this datagram.
+    Reopen(u8, usize),
     /// A replica's log and lease table are written.
     Rows(u8),
     /// This was written since the last such step, and nothing else.
@@ -97,16 +97,8 @@ impl Cluster {
         keep(self.alloc, record, replica(i), step)
     }
 
-    /// What the replica that a datagram goes to makes of it.
     fn hear(&mut self, record: &Record, i: u8, k: usize) -> Result<Step, Fail> {
-        let Some(mail) = record.get(k) else {
-            return Err(Fail::new("no such datagram"));
-        };
-        let input = Input::Datagram {
-            from: mail.from,
-            bytes: mail.bytes.as_slice(),
-        };
-        Ok(self.manager(i)?.handle(&input)?)
+        hear(self.manager(i)?, record, k)
     }
 
     fn deliver_to(&mut self, record: &mut Record, i: u8, k: usize) -> Result<(), Fail> {
@@ -148,10 +140,9 @@ impl Cluster {
         Ok(Manager::recover(self.alloc, &self.config, i, &bodies)?)
     }
 
-    fn restart(&mut self, record: &Record, i: u8) -> Result<(), Fail> {
-        let manager = self.recovered(record, i)?;
-        *self.manager(i)? = manager;
-        Ok(())
+    fn reopen(&self, record: &mut Record, i: u8, k: usize) -> Result<(), Fail> {
+        let mut manager = self.recovered(record, i)?;
+        begin(self.alloc, &mut manager, record, i, k)
     }
 
     fn play_one(&mut self, record: &mut Record, act: Act<'_>) -> Result<(), Fail> {
@@ -160,7 +151,7 @@ impl Cluster {
             Act::Send(from, to, text) => send(self.alloc, record, from, to, text),
             Act::Deliver(first, last) => self.deliver_each(record, first, last),
             Act::Settle => self.settle(record),
-            Act::Restart(i) => self.restart(record, i),
+            Act::Reopen(i, k) => self.reopen(record, i, k),
             Act::Rows(i) => write_rows(record, replica(i), self.manager(i)?),
             Act::Told(text) => told(record, text),
             Act::Unread => {
@@ -176,6 +167,31 @@ impl Cluster {
         }
         Ok(())
     }
+}
+
+/// What a manager makes of the datagram with this number.
+fn hear(manager: &mut Manager, record: &Record, k: usize) -> Result<Step, Fail> {
+    let Some(mail) = record.get(k) else {
+        return Err(Fail::new("no such datagram"));
+    };
+    let input = Input::Datagram {
+        from: mail.from,
+        bytes: mail.bytes.as_slice(),
+    };
+    Ok(manager.handle(&input)?)
+}
+
+/// The rows of a manager that was just opened, and the first datagram that it hears.
+fn begin(
+    alloc: Global,
+    manager: &mut Manager,
+    record: &mut Record,
+    i: u8,
+    k: usize,
+) -> Result<(), Fail> {
+    write_rows(record, replica(i), manager)?;
+    let step = hear(manager, record, k)?;
+    keep(alloc, record, replica(i), step)
 }
 
 /// The replica that a datagram goes to.

@@ -192,10 +192,8 @@ fn an_heir_finishes_what_was_begun(rt: HostRuntime) -> Result<(), Fail> {
                 replica 4 entry 04000000000000000b010200000000000000210100000000000000000001\n\
                 replica 4 grant 33\n",
             ),
-            // Replica 0 has from its journal what it promised and learned.
-            Act::Restart(0),
-            Act::Rows(0),
-            Act::Deliver(2, 2),
+            // From its journal replica 0 has what it promised and learned: it refuses the first candidacy.
+            Act::Reopen(0, 2),
             Act::Told(
                 "\
                 replica 0 length 4\n\
