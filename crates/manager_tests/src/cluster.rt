@@ -132,12 +132,10 @@ impl Cluster {
         Err(Fail::new("it never ends"))
     }
 
-    fn recovered(&self, record: &Record, i: u8) -> Result<Manager, Fail> {
-        if 4 < i {
-            return Err(Fail::new("no such replica"));
-        }
+    /// A replica, from 0 to 4, as it opens on its journal.
+    fn recovered(&self, record: &Record, i: u8) -> Result<Manager, NoMemory> {
         let bodies = journal(self.alloc, record.entries(), replica(i))?;
-        Ok(Manager::recover(self.alloc, &self.config, i, &bodies)?)
+        Manager::recover(self.alloc, &self.config, i.min(4), &bodies)
     }
 
     fn reopen(&self, record: &mut Record, i: u8, k: usize) -> Result<(), Fail> {
@@ -242,23 +240,6 @@ fn open(alloc: Global, config: &Config) -> Result<Vec<Manager>, NoMemory> {
     Ok(managers)
 }
 
-fn config_of(alloc: Global, text: &str) -> Result<Config, Fail> {
-    match Config::read(alloc, text.as_bytes()) {
-        Ok(config) => Ok(config),
-        Err(_) => Err(Fail::new("no configuration")),
-    }
-}
-
-fn open_cluster(alloc: Global, config: &str) -> Result<Cluster, Fail> {
-    let config = config_of(alloc, config)?;
-    let managers = open(alloc, &config)?;
-    Ok(Cluster {
-        alloc,
-        config,
-        managers,
-    })
-}
-
 /// How many datagrams were sent in all.
 fn play_with(alloc: Global, cluster: &mut Cluster, acts: &[Act<'_>]) -> Result<usize, Fail> {
     let mut record = Record::new(alloc);
@@ -266,8 +247,20 @@ fn play_with(alloc: Global, cluster: &mut Cluster, acts: &[Act<'_>]) -> Result<u
     Ok(record.count())
 }
 
+fn play_by(alloc: Global, config: Config, acts: &[Act<'_>]) -> Result<usize, Fail> {
+    let managers = open(alloc, &config)?;
+    let mut cluster = Cluster {
+        alloc,
+        config,
+        managers,
+    };
+    play_with(alloc, &mut cluster, acts)
+}
+
 /// Plays a run from its beginning, and answers how many datagrams were sent in it.
 pub fn play(alloc: Global, config: &str, acts: &[Act<'_>]) -> Result<usize, Fail> {
-    let mut cluster = open_cluster(alloc, config)?;
-    play_with(alloc, &mut cluster, acts)
+    match Config::read(alloc, config.as_bytes()) {
+        Ok(config) => play_by(alloc, config, acts),
+        Err(_) => Err(Fail::new("no configuration")),
+    }
 }
