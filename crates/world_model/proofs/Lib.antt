@@ -1,5 +1,3 @@
-pub mod Places
-pub mod Lists
 pub mod Spreads
 pub mod Settles
 pub mod ShownSites
@@ -9,4 +7,3 @@ pub mod There
 pub mod ShownFirsts
 pub mod Standing
 pub mod Replays
-pub mod Firsts

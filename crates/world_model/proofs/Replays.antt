@@ -7,7 +7,7 @@ use Rattle.schedule_text.specs.Transcript.{printed_line}
 use Rattle.schedule_text.specs.declared.event.Event.{Event}
 use Rattle.schedule_text.specs.declared.line.Line.{Line}
 use Rattle.schedule_text.specs.declared.line.Line.TheVariants as line
-use Rattle.world_model.specs.Sites.{Deciding, Opening}
+use Rattle.world_nodes.specs.Sites.{Deciding, Opening}
 use Rattle.world_model.specs.World.{WorldState, applied, lines_from}
 
 module _ {C : Type 0} (step : Deciding C) (recover : Opening C) (cfg : ConfigParts) where

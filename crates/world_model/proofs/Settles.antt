@@ -3,7 +3,7 @@ use Rattle.std.proofs.Common.{◌≡◌, ◌<◌, ℕ, zero, suc, ◌-◌, List,
 use Rattle.schedule_text.specs.declared.line.Line.{Line}
 use Rattle.schedule_text.specs.declared.line.Line.TheVariants as line
 use Rattle.world_mail.specs.Mails.{MailState, least_waiting}
-use Rattle.world_model.specs.Sites.{Deciding}
+use Rattle.world_nodes.specs.Sites.{Deciding}
 use Rattle.world_model.specs.World.{Outcome, WorldState, deliver, onto, settle, settle_by}
 
 module _ {C : Type 0} (step : Deciding C) where

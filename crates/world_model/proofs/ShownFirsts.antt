@@ -13,9 +13,10 @@ use Rattle.schedule_text.specs.declared.line.Line.TheVariants as line
 use Rattle.world_spec.specs.Nodes.{Lists, booted}
 use Rattle.world_spec.specs.World.{Site, World, is_there, first_site as first_by_table, first_sites as first_by_tables, first_world as first_of_tables}
 use Rattle.world_spec.specs.Transcript as transcript
-use Rattle.world_model.specs.Firsts.{first_sites, first_world}
+use Rattle.world_nodes.specs.Firsts.{first_sites}
+use Rattle.world_model.specs.Firsts.{first_world}
 use Rattle.world_model.specs.Shown.{FollowsTables, shown, shown_site}
-use Rattle.world_model.specs.Sites.{Deciding, Opening, SiteState, first_site}
+use Rattle.world_nodes.specs.Sites.{Deciding, Opening, SiteState, first_site}
 use Rattle.world_model.specs.World as model
 use Rattle.world_model.specs.World.{Outcome, WorldState}
 use Rattle.world_model.proofs.ShownWorlds.{applied_shown}

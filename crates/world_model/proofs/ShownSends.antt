@@ -23,7 +23,7 @@ use Rattle.world_mail.specs.declared.mail.Posted.{Posted}
 use Rattle.world_spec.specs.Acts.{log_length, longest as longest_log}
 use Rattle.world_spec.specs.Nodes.{Lists}
 use Rattle.world_spec.specs.World.{Site, World, Sent, all_sent, is_placed, is_to_node, sent_by, untaken as untaken_sent, waiting_from as waiting_sent, least_waiting as least_sent}
-use Rattle.world_model.specs.Nodes.{longer}
+use Rattle.world_nodes.specs.Nodes.{longer}
 use Rattle.world_model.specs.Shown.{receiver, shown, shown_sent, shown_site}
 use Rattle.world_model.specs.World.{node_in, posted_by}
 

@@ -14,10 +14,10 @@ use Rattle.node_spec.specs.Turns.{Input, Turn}
 use Rattle.world_spec.specs.Acts.{log_length}
 use Rattle.world_spec.specs.Nodes.{Lists, booted, boot_entry, listed, node_turn, opened}
 use Rattle.world_spec.specs.World.{Site, nobody}
-use Rattle.world_model.specs.Nodes.{put_at, site_at, step_at, crash_at, cut_at, restart_at, cut_restart_at}
+use Rattle.world_nodes.specs.Nodes.{put_at, site_at, step_at, crash_at, cut_at, restart_at, cut_restart_at}
 use Rattle.world_model.specs.Shown.{FollowsTables, shown_site}
-use Rattle.world_model.specs.Sites.{Deciding, Opening, SiteState, cut_restart_by, downed, lost_by, restart_by, site_crash, site_cut, site_cut_restart, site_restart, site_step, step_by, stepped, told_by, told_none}
-use Rattle.world_model.specs.declared.stepped.Stepped.{Stepped}
+use Rattle.world_nodes.specs.Sites.{Deciding, Opening, SiteState, cut_restart_by, downed, lost_by, restart_by, site_crash, site_cut, site_cut_restart, site_restart, site_step, step_by, stepped, told_by, told_none}
+use Rattle.world_nodes.specs.declared.stepped.Stepped.{Stepped}
 
 -- a log with more entries
 pub log_more : (es fs : List Entry) → log_length (es ++ fs) ≡ log_length es + log_length fs

@@ -29,9 +29,9 @@ use Rattle.world_spec.specs.Steps as steps
 use Rattle.world_spec.specs.Events as events
 use Rattle.world_spec.specs.Transcript as transcript
 use Rattle.world_spec.proofs.SiteLaws.{up_is_there}
-use Rattle.world_model.specs.Nodes.{NodesState, crash_node, cut_node, cut_restart_node, longest, restart_node, step_node, with_replicas, with_muxes, with_agents}
+use Rattle.world_nodes.specs.Nodes.{NodesState, crash_node, cut_node, cut_restart_node, longest, restart_node, step_node, with_replicas, with_muxes, with_agents}
 use Rattle.world_model.specs.Shown.{FollowsTables, receiver, shown, shown_sent}
-use Rattle.world_model.specs.Sites.{Deciding, Opening}
+use Rattle.world_nodes.specs.Sites.{Deciding, Opening}
 use Rattle.world_model.specs.World as model
 use Rattle.world_model.specs.World.{Outcome, WorldState, posted_by}
 use Rattle.world_model.proofs.ShownSends.{least_shown, longest_shown, marks_shown, sends_shown}

@@ -11,7 +11,7 @@ use Rattle.schedule_text.specs.declared.line.Line.TheVariants as line
 use Rattle.world_spec.specs.Steps.{act_lines, note_lines, sent_lines}
 use Rattle.world_mail.specs.Mails.{MailState, untaken, with_posted}
 use Rattle.world_model.specs.World.{cut_mail, posted_by}
-use Rattle.world_model.specs.declared.stepped.Stepped.{Stepped}
+use Rattle.world_nodes.specs.declared.stepped.Stepped.{Stepped}
 
 sent_lines_more : (x : NodeId) (n : ℕ) (xs : List Outgoing) (s : Outgoing)
     → sent_lines x n (xs ++ s ∷ []) ≡ sent_lines x n xs ++ line.Sent (n + length xs + 1) x s.to s.bytes ∷ []

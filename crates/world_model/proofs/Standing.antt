@@ -16,12 +16,13 @@ use Rattle.node_core.specs.declared.node.Node.{Node}
 use Rattle.world_spec.specs.Nodes.{Lists}
 use Rattle.world_spec.specs.World.{World, at, is_there, nobody, site, first_world as first_of_tables}
 use Rattle.world_spec.specs.Transcript as transcript
-use Rattle.world_model.specs.Disks.{IsLent}
+use Rattle.world_nodes.specs.Disks.{IsLent}
 use Rattle.world_mail.specs.Mails.{MailState}
-use Rattle.world_model.specs.Firsts.{first_nodes, first_world}
-use Rattle.world_model.specs.Nodes.{NodesState, node_at}
+use Rattle.world_nodes.specs.Firsts.{first_nodes}
+use Rattle.world_model.specs.Firsts.{first_world}
+use Rattle.world_nodes.specs.Nodes.{NodesState, node_at}
 use Rattle.world_model.specs.Shown.{FollowsTables, IsLentFor, IsTranscript, IsUpFor, StandsAfter, StandsFirst, StandsFor, shown, shown_site}
-use Rattle.world_model.specs.Sites.{Deciding, Opening, SiteState}
+use Rattle.world_nodes.specs.Sites.{Deciding, Opening, SiteState}
 use Rattle.world_model.specs.World as model
 use Rattle.world_model.specs.World.{Outcome, WorldState}
 use Rattle.world_model.proofs.ShownFirsts.{first_shown, transcript_shown}

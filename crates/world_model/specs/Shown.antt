@@ -17,8 +17,8 @@ use Rattle.world_spec.specs.Transcript.{applied, transcript_text}
 use Rattle.world_spec.specs.World.{Site, Sent, World, at, first_world, is_there, site}
 use Rattle.disk_model.specs.Disks.{DiskState}
 use Rattle.node_core.specs.declared.node.Node.{Node}
-use Rattle.world_model.specs.Disks.{IsLent}
-use Rattle.world_model.specs.Sites.{Deciding, Opening, SiteState}
+use Rattle.world_nodes.specs.Disks.{IsLent}
+use Rattle.world_nodes.specs.Sites.{Deciding, Opening, SiteState}
 use Rattle.world_model.specs.World.{WorldState}
 
 -- What decides follows the tables, where a node with these lists has that core: each step is its role's turn, and each

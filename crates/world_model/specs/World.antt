@@ -23,9 +23,9 @@ use Rattle.world_spec.specs.Steps.{act_lines, home, note_lines, sent_lines}
 use Rattle.world_spec.specs.World.{same_node}
 use Rattle.world_mail.specs.Mails.{MailState, least_waiting, posted_at, taken_by, with_posted}
 use Rattle.world_mail.specs.declared.mail.Posted.{Posted}
-use Rattle.world_model.specs.Nodes.{NodesState, crash_node, cut_node, cut_restart_node, longest, restart_node, step_node}
-use Rattle.world_model.specs.Sites.{Deciding, Opening}
-use Rattle.world_model.specs.declared.stepped.Stepped.{Stepped}
+use Rattle.world_nodes.specs.Nodes.{NodesState, crash_node, cut_node, cut_restart_node, longest, restart_node, step_node}
+use Rattle.world_nodes.specs.Sites.{Deciding, Opening}
+use Rattle.world_nodes.specs.declared.stepped.Stepped.{Stepped}
 
 pub record WorldState (C : Type 0) : Type 0 where
   pub cfg : ConfigParts

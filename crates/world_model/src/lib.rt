@@ -7,30 +7,19 @@
 //!
 //! | subject | file of `specs/` |
 //! |---|---|
-//! | a node: a step, a crash, an opening, each cut short | `Sites` |
-//! | all nodes, by their roles and numbers | `Nodes` |
 //! | a world: what an event makes of it, and its lines | `World` |
 //! | the first world | `Firsts` |
-//! | nodes and worlds as the code keeps them | `Disks`, `Sound` |
+//! | a world as the code keeps it | `Sound` |
 //! | which world by the tables a world stands for | `Shown` |
 //!
 //! A delivery costs a look at the datagram's place and the node's step. A settle finds what waits from where it looked
 //! last. Memory grows with what was sent and what was written.
 #![tactic(auto)]
 
-mod fault;
-mod nodes;
-mod opening;
-mod outbox;
-mod site;
 mod spreading;
-mod stepped;
 mod transcript;
 mod world;
 
-pub use fault::WorldFault;
-pub use nodes::Nodes;
-pub use site::{Place, Site};
-pub use stepped::Stepped;
 pub use transcript::replay;
 pub use world::{LineList, World};
+pub use world_nodes::WorldFault;

@@ -8,7 +8,6 @@ ghost use Rattle.world_spec.specs.World.{same_node};
 ghost use Rattle.vip_config.specs.Queries.{who_of};
 ghost use Rattle.world_model.specs.World.{acts_of, cut_acts, cut_lines, fallen_lines, longer_acts, node_in, opened_lines, posted_by, say, spread_lines, spread_mail};
 
-use crate::stepped::Stepped;
 use schedule_text::{Line, Word};
 use std::alloc::{AllocError, Global};
 use vip_config::{Config, Who};
@@ -16,6 +15,7 @@ use wire_core::{
     Act, ActList, Items, NoMemory, NodeId, Note, NoteList, Outgoing, SendList, Socket,
 };
 use world_mail::Mail;
+use world_nodes::Stepped;
 
 /// The same node.
 pub fn same_node(x: NodeId, y: NodeId) -> bool

@@ -5,17 +5,18 @@ ghost use Rattle.schedule_text.specs.Transcript.{printed_line};
 ghost use Rattle.schedule_text.specs.declared.line.Line.TheVariants as line;
 ghost use Rattle.world_model.specs.Firsts.{first_world};
 ghost use Rattle.world_model.specs.Shown.{IsTranscript};
-ghost use Rattle.world_model.specs.Sites.{deciding};
-ghost use Rattle.world_model.specs.Sound.{IsSound, MayOpen, world_of};
+ghost use Rattle.world_nodes.specs.Sites.{deciding};
+ghost use Rattle.world_nodes.specs.Firsts.{MayOpen};
+ghost use Rattle.world_model.specs.Sound.{IsSound, world_of};
 ghost use Rattle.world_model.specs.World.{applied, lines_from};
 
-use crate::fault::WorldFault;
 use crate::world::World;
 use node_core::Core;
 use schedule_text::{Event, Line, print_line, write_event};
 use std::alloc::Global;
 use vip_config::Config;
 use wire_core::NoMemory;
+use world_nodes::WorldFault;
 
 // An event's own line.
 fn write_own(alloc: Global, cfg: &Config, out: &mut String, event: &Event) -> Result<(), NoMemory>

@@ -2,19 +2,15 @@ ghost use Rattle.std.specs.Prelude.{◌≡◌, ◌++◌, ◌∷◌, [], Some, tr
 ghost use Rattle.node_spec.specs.Steps.{input_of};
 ghost use Rattle.vip_config.specs.Queries.{socket_of};
 ghost use Rattle.world_mail.specs.Mails.{taken_by};
-ghost use Rattle.world_model.specs.Disks.{IsLent};
-ghost use Rattle.world_model.specs.Nodes.{node_at};
-ghost use Rattle.world_model.specs.Sites.{deciding};
+ghost use Rattle.world_nodes.specs.Disks.{IsLent};
+ghost use Rattle.world_nodes.specs.Nodes.{node_at};
+ghost use Rattle.world_nodes.specs.Sites.{deciding};
 ghost use Rattle.world_model.specs.Firsts.{first_world};
 ghost use Rattle.world_model.specs.Shown.{IsLentFor, IsUpFor, StandsAfter, StandsFirst};
-ghost use Rattle.world_model.specs.Sound.{IsSound, MayOpen, world_of};
+ghost use Rattle.world_nodes.specs.Firsts.{MayOpen};
+ghost use Rattle.world_model.specs.Sound.{IsSound, world_of};
 ghost use Rattle.world_model.specs.World.{applied, crash, cut_deliver, cut_input, cut_opening, cut_restart, deliver, during, input, onto, restart, settle, single};
 
-use crate::fault::WorldFault;
-use crate::nodes::{
-    Nodes, crash_node, cut_node, cut_restart_node, lent, longest, restart_node, step_node,
-};
-use crate::opening::first_nodes;
 use crate::spreading::{home, same_node, say, say_cut, say_fallen, say_opened, spread};
 use disk_model::MemDisk;
 use node_core::{Core, Node};
@@ -23,6 +19,10 @@ use std::alloc::Global;
 use vip_config::Config;
 use wire_core::{Input, Items, NodeId};
 use world_mail::Mail;
+use world_nodes::{
+    Nodes, WorldFault, crash_node, cut_node, cut_restart_node, first_nodes, lent, longest,
+    restart_node, step_node,
+};
 
 /// The lines of an event.
 pub type LineList = Items<Line>;

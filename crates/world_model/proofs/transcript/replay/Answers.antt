@@ -3,7 +3,7 @@ use Rattle.std.specs.Prelude.{string_bytes}
 use Rattle.std.specs.List.{flat_map}
 use Rattle.schedule_text.specs.Transcript.{printed_line}
 use Rattle.world_model.specs.Firsts.{first_world}
-use Rattle.world_model.specs.Sites.{deciding}
+use Rattle.world_nodes.specs.Sites.{deciding}
 use Rattle.world_model.specs.World.{lines_from}
 use Rattle.world_model.proofs.Standing.{is_transcript}
 use Rattle.world_model.proofs.transcript.replay.Goals as goal

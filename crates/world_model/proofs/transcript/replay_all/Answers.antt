@@ -2,7 +2,7 @@ use Rattle.std.proofs.Common.{rules, ◌≡◌, ◌<◌, ◌≤◌, ◌+◌, ◌
 use Rattle.std.specs.Prelude.{string_bytes}
 use Rattle.std.proofs.lemmas.List.{drop_more}
 use Rattle.schedule_text.specs.declared.event.Event.{Event}
-use Rattle.world_model.specs.Sites.{deciding}
+use Rattle.world_nodes.specs.Sites.{deciding}
 use Rattle.world_model.specs.Sound.{world_of}
 use Rattle.world_model.proofs.Replays.{drop_past, replay_ends, replay_next}
 use Rattle.world_model.proofs.transcript.replay_all.Goals as goal

@@ -2,7 +2,7 @@ use Rattle.std.proofs.Common.{◌≡◌, ◌++◌, drop}
 use Rattle.std.specs.Prelude.{string_bytes}
 use Rattle.std.specs.List.{flat_map}
 use Rattle.schedule_text.specs.Transcript.{printed_line}
-use Rattle.world_model.specs.Sites.{deciding}
+use Rattle.world_nodes.specs.Sites.{deciding}
 use Rattle.world_model.specs.Sound.{IsSound, world_of}
 use Rattle.world_model.specs.World.{lines_from}
 use Rattle.world_model.proofs.transcript.replay_all.Given as goal

@@ -1,5 +1,5 @@
 use Rattle.std.proofs.Common.{rules, ◌≡◌}
-use Rattle.world_model.specs.Sites.{deciding}
+use Rattle.world_nodes.specs.Sites.{deciding}
 use Rattle.world_model.specs.Sound.{world_of}
 use Rattle.world_model.specs.World.{applied}
 use Rattle.world_model.proofs.Standing.{stands_after}

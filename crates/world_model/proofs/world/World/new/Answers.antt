@@ -1,6 +1,6 @@
 use Rattle.std.proofs.Common.{rules}
-use Rattle.world_model.specs.Nodes.{nodes_of}
-use Rattle.world_model.specs.Sites.{deciding}
+use Rattle.world_nodes.specs.Nodes.{nodes_of}
+use Rattle.world_nodes.specs.Sites.{deciding}
 use Rattle.world_model.proofs.Standing.{stands_at_first}
 use Rattle.world_model.proofs.world.World.new.Goals as goal
 

@@ -1,7 +1,7 @@
 use Rattle.std.proofs.Common.{rules, ◌≡◌, true, false}
 use Rattle.std.specs.Prelude.{is_some}
-use Rattle.world_model.specs.Disks.{IsLent}
-use Rattle.world_model.specs.Nodes.{node_at}
+use Rattle.world_nodes.specs.Disks.{IsLent}
+use Rattle.world_nodes.specs.Nodes.{node_at}
 use Rattle.world_model.specs.Sound.{world_of}
 use Rattle.world_model.proofs.Standing.{lent_for, up_for}
 use Rattle.world_model.proofs.world.World.node.Goals as goal

@@ -1,7 +1,7 @@
 use Rattle.std.proofs.Common.{rules, ◌≡◌, ◌++◌, ◌∷◌, [], Some, None}
 use Rattle.schedule_text.specs.declared.line.Line.TheVariants as line
 use Rattle.world_mail.specs.Mails.{least_waiting}
-use Rattle.world_model.specs.Sites.{deciding}
+use Rattle.world_nodes.specs.Sites.{deciding}
 use Rattle.world_model.specs.Sound.{world_of}
 use Rattle.world_model.specs.World.{deliver, onto}
 use Rattle.world_model.proofs.Settles.{settle_done, settle_more, settle_stops}

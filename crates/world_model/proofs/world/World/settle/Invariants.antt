@@ -1,5 +1,5 @@
 use Rattle.std.proofs.Common.{◌≡◌}
-use Rattle.world_model.specs.Sites.{deciding}
+use Rattle.world_nodes.specs.Sites.{deciding}
 use Rattle.world_model.specs.Sound.{IsSound, world_of}
 use Rattle.world_model.specs.World.{onto, settle}
 use Rattle.world_model.proofs.world.World.settle.Given as goal

@@ -7,7 +7,7 @@ use Rattle.vip_config.specs.declared.parts.ConfigParts.{ConfigParts}
 use Rattle.node_spec.specs.Turns.{Input}
 use Rattle.world_spec.specs.Acts.{log_length}
 use Rattle.world_spec.specs.Nodes.{booted, listed}
-use Rattle.world_model.specs.declared.stepped.Stepped.{Stepped}
+use Rattle.world_nodes.specs.declared.stepped.Stepped.{Stepped}
 
 -- A node: the entries of its disk, how many values these learn, and its core while it is up.
 pub record SiteState (C : Type 0) : Type 0 where

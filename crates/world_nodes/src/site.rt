@@ -3,8 +3,8 @@ ghost use Rattle.std.specs.Prelude.{◌≡◌, ◌+◌, ◌++◌, Some, None, is
 ghost use Rattle.node_spec.specs.Steps.{input_of};
 ghost use Rattle.world_spec.specs.Acts.{log_length};
 ghost use Rattle.world_spec.specs.Nodes.{booted, listed};
-ghost use Rattle.world_model.specs.Disks.{Holds, IsLent, IsPlace, IsUp, entries_on, entry_of, place_entries, place_up, site_of};
-ghost use Rattle.world_model.specs.Sites.{deciding, first_site, site_crash, site_cut, site_cut_restart, site_lose, site_restart, site_step, told_by, told_none};
+ghost use Rattle.world_nodes.specs.Disks.{Holds, IsLent, IsPlace, IsUp, entries_on, entry_of, place_entries, place_up, site_of};
+ghost use Rattle.world_nodes.specs.Sites.{deciding, first_site, site_crash, site_cut, site_cut_restart, site_lose, site_restart, site_step, told_by, told_none};
 
 use crate::fault::WorldFault;
 use crate::outbox::Outbox;

@@ -3,10 +3,10 @@ use Rattle.std.proofs.Common.{◌≡◌, ℕ, suc, ◌+◌, List, [], ◌∷◌,
 use Rattle.std.proofs.lemmas.List.{map-append}
 use Rattle.wire_core.specs.declared.node.NodeId.{NodeId}
 use Rattle.vip_config.specs.declared.parts.ConfigParts.{ConfigParts}
-use Rattle.world_model.specs.declared.site.Site.{Site}
-use Rattle.world_model.specs.Disks.{site_of}
-use Rattle.world_model.specs.Firsts.{first_sites}
-use Rattle.world_model.specs.Sites.{Opening, SiteState, first_site}
+use Rattle.world_nodes.specs.declared.site.Site.{Site}
+use Rattle.world_nodes.specs.Disks.{site_of}
+use Rattle.world_nodes.specs.Firsts.{first_sites}
+use Rattle.world_nodes.specs.Sites.{Opening, SiteState, first_site}
 
 pub one_more : {C : Type 0} (recover : Opening C) (cfg : ConfigParts) (named : ℕ → NodeId) (i : ℕ) (x : NodeId)
     (before after : List (Site C)) (s : Site C) → after ≡ before ++ s ∷ [] → x ≡ named i

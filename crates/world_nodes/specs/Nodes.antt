@@ -4,10 +4,10 @@ use Rattle.wire_core.specs.declared.node.NodeId.{NodeId}
 use Rattle.wire_core.specs.declared.node.NodeId.TheVariants.{Replica, Mux, Agent}
 use Rattle.vip_config.specs.declared.parts.ConfigParts.{ConfigParts}
 use Rattle.node_spec.specs.Turns.{Input}
-use Rattle.world_model.specs.Disks.{ArePlaces, site_of}
-use Rattle.world_model.specs.Sites.{Deciding, Opening, SiteState, site_crash, site_cut, site_cut_restart, site_restart, site_step}
-use Rattle.world_model.specs.declared.nodes.Nodes.{Nodes}
-use Rattle.world_model.specs.declared.stepped.Stepped.{Stepped}
+use Rattle.world_nodes.specs.Disks.{ArePlaces, site_of}
+use Rattle.world_nodes.specs.Sites.{Deciding, Opening, SiteState, site_crash, site_cut, site_cut_restart, site_restart, site_step}
+use Rattle.world_nodes.specs.declared.nodes.Nodes.{Nodes}
+use Rattle.world_nodes.specs.declared.stepped.Stepped.{Stepped}
 
 -- The nodes of each role by their numbers.
 pub record NodesState (C : Type 0) : Type 0 where

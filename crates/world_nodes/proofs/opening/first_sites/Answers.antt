@@ -1,9 +1,9 @@
 use Rattle.std.proofs.Common.{rules, ◌≡◌, [], ◌∷◌, ◌++◌, sym, subst}
-use Rattle.world_model.specs.Disks.{ArePlaces, IsPlace}
-use Rattle.world_model.specs.Firsts.{named}
-use Rattle.world_model.proofs.Firsts.{one_more}
-use Rattle.world_model.proofs.Lists.{places_more}
-use Rattle.world_model.proofs.opening.first_sites.Goals as goal
+use Rattle.world_nodes.specs.Disks.{ArePlaces, IsPlace}
+use Rattle.world_nodes.specs.Firsts.{named}
+use Rattle.world_nodes.proofs.Firsts.{one_more}
+use Rattle.world_nodes.proofs.Lists.{places_more}
+use Rattle.world_nodes.proofs.opening.first_sites.Goals as goal
 
 pub loop-i-preserved : goal.loop-i-preserved
 loop-i-preserved g c =

@@ -1,9 +1,9 @@
 // All nodes of a world, by their roles.
 ghost use Rattle.std.specs.Prelude.{◌≡◌, ◌<◌, length, map, is_some, fold, IfSome, OnOk, IfOk};
 ghost use Rattle.node_spec.specs.Steps.{input_of};
-ghost use Rattle.world_model.specs.Disks.{ArePlaces, IsLent, site_of};
-ghost use Rattle.world_model.specs.Sites.{deciding};
-ghost use Rattle.world_model.specs.Nodes.{AreNodes, crash_at, crash_node, cut_at, cut_node, cut_restart_at, cut_restart_node, longer, longest, node_at, nodes_of, restart_at, restart_node, site_at, step_at, step_node};
+ghost use Rattle.world_nodes.specs.Disks.{ArePlaces, IsLent, site_of};
+ghost use Rattle.world_nodes.specs.Sites.{deciding};
+ghost use Rattle.world_nodes.specs.Nodes.{AreNodes, crash_at, crash_node, cut_at, cut_node, cut_restart_at, cut_restart_node, longer, longest, node_at, nodes_of, restart_at, restart_node, site_at, step_at, step_node};
 
 use crate::fault::WorldFault;
 use crate::site::{Site, crash, cut, cut_restart, node, restart, step};

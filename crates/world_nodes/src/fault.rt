@@ -11,7 +11,7 @@ pub enum WorldFault {
 
 impl From<NoMemory> for WorldFault {
     ghost use Rattle.std.specs.Prelude.{◌≡◌};
-    ghost use Rattle.world_model.specs.declared.fault.WorldFault.TheVariants.{NoMemory};
+    ghost use Rattle.world_nodes.specs.declared.fault.WorldFault.TheVariants.{NoMemory};
 
     ghost from_gives = { λ _ e. e ≡ NoMemory };
 
@@ -22,7 +22,7 @@ impl From<NoMemory> for WorldFault {
 
 impl<T: Drop> From<AllocFailed<T>> for WorldFault {
     ghost use Rattle.std.specs.Prelude.{◌≡◌};
-    ghost use Rattle.world_model.specs.declared.fault.WorldFault.TheVariants.{NoMemory};
+    ghost use Rattle.world_nodes.specs.declared.fault.WorldFault.TheVariants.{NoMemory};
 
     ghost from_gives = { λ _ e. e ≡ NoMemory };
 

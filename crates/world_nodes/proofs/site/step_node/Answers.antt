@@ -2,9 +2,9 @@ use Rattle.std.proofs.Common.{rules, ◌≡◌, ◌+◌, Some, [], map}
 use Rattle.node_core.specs.Sending.{Handed}
 use Rattle.node_spec.specs.Steps.{input_of}
 use Rattle.world_spec.specs.Acts.{log_length}
-use Rattle.world_model.specs.Disks.{as_taken, entry_of, outbox_sent}
-use Rattle.world_model.proofs.Places.{all_kept, told_is}
-use Rattle.world_model.proofs.site.step_node.Goals as goal
+use Rattle.world_nodes.specs.Disks.{as_taken, entry_of, outbox_sent}
+use Rattle.world_nodes.proofs.Places.{all_kept, told_is}
+use Rattle.world_nodes.proofs.site.step_node.Goals as goal
 
 pub returns-clause-told : goal.returns-clause-told
 returns-clause-told g c =

@@ -1,7 +1,7 @@
 use Rattle.std.proofs.Common.{◌≡◌, map}
-use Rattle.world_model.specs.Disks.{ArePlaces, site_of}
-use Rattle.world_model.specs.Firsts.{first_sites, named}
-use Rattle.world_model.proofs.opening.first_sites.Given as goal
+use Rattle.world_nodes.specs.Disks.{ArePlaces, site_of}
+use Rattle.world_nodes.specs.Firsts.{first_sites, named}
+use Rattle.world_nodes.proofs.opening.first_sites.Given as goal
 
 abbrev pub invariant-loop-i : goal.invariant-loop-i
 invariant-loop-i g l = record {

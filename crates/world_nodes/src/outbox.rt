@@ -2,7 +2,7 @@ ghost use Rattle.std.specs.Prelude.{◌≡◌, ◌∷◌, ◌++◌, [], Ok, Some
 ghost use Rattle.outside_io.specs.Faults.{HasCause};
 ghost use Rattle.outside_io.specs.Link.{sent_with};
 ghost use Rattle.outside_io.specs.Telling.{Tells};
-ghost use Rattle.world_model.specs.Disks.{as_taken, outbox_sent};
+ghost use Rattle.world_nodes.specs.Disks.{as_taken, outbox_sent};
 
 use outside_io::{Arrival, Failed, Link};
 use std::alloc::{AllocError, Global};

@@ -1,9 +1,9 @@
 // All nodes, opened on empty disks.
 ghost use Rattle.std.specs.Prelude.{◌≡◌, ◌<◌, ◌≤◌, ℕ, map, IfOk};
-ghost use Rattle.world_model.specs.Disks.{ArePlaces, site_of};
-ghost use Rattle.world_model.specs.Firsts.{first_nodes, first_sites, named};
-ghost use Rattle.world_model.specs.Nodes.{AreNodes, nodes_of};
-ghost use Rattle.world_model.specs.Sound.{MayOpen};
+ghost use Rattle.world_nodes.specs.Disks.{ArePlaces, site_of};
+ghost use Rattle.world_nodes.specs.Firsts.{first_nodes, first_sites, named};
+ghost use Rattle.world_nodes.specs.Nodes.{AreNodes, nodes_of};
+ghost use Rattle.world_nodes.specs.Firsts.{MayOpen};
 
 use crate::fault::WorldFault;
 use crate::nodes::Nodes;

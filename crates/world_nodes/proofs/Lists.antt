@@ -2,9 +2,9 @@
 use Rattle.std.proofs.Common.{◌≡◌, ◌<◌, ◌≤◌, ℕ, zero, suc, List, [], ◌∷◌, ◌++◌, map, length, get_or, set, None, sym, ap, arith}
 use Rattle.std.proofs.lemmas.List.{map-set, get_or-map, get_or_past, length-map}
 use Rattle.std.proofs.lemmas.List.Elements.{All-append, All-from_get_or, All-get_or, All-set}
-use Rattle.world_model.specs.declared.site.Site.{Site}
-use Rattle.world_model.specs.Disks.{ArePlaces, IsPlace, site_of}
-use Rattle.world_model.specs.Nodes.{nobody, site_at}
+use Rattle.world_nodes.specs.declared.site.Site.{Site}
+use Rattle.world_nodes.specs.Disks.{ArePlaces, IsPlace, site_of}
+use Rattle.world_nodes.specs.Nodes.{nobody, site_at}
 
 pub same_length : {C : Type 0} (sites : List (Site C)) → length (map site_of sites) ≡ length sites
 same_length sites = length-map sites site_of

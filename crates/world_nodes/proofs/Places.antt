@@ -26,10 +26,10 @@ use Rattle.node_core.specs.Sending.{Handed, outgoing_of}
 use Rattle.node_core.specs.declared.node.Node.{Node}
 use Rattle.world_spec.specs.Acts.{log_length}
 use Rattle.world_spec.specs.Nodes.{booted, listed, role_of as world_role, index_of as world_index}
-use Rattle.world_model.specs.declared.site.Place.TheVariants.{Up}
-use Rattle.world_model.specs.declared.site.Site.{Site}
-use Rattle.world_model.specs.Sites.{told_by}
-use Rattle.world_model.specs.Disks.{Holds, IsLent, IsPlace, IsUp, as_taken, bodies_in, entries_on, entry_of, or_none, place_entries, place_up, site_of}
+use Rattle.world_nodes.specs.declared.site.Place.TheVariants.{Up}
+use Rattle.world_nodes.specs.declared.site.Site.{Site}
+use Rattle.world_nodes.specs.Sites.{told_by}
+use Rattle.world_nodes.specs.Disks.{Holds, IsLent, IsPlace, IsUp, as_taken, bodies_in, entries_on, entry_of, or_none, place_entries, place_up, site_of}
 
 -- ---- files
 

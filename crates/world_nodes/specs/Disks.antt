@@ -11,11 +11,11 @@ use Rattle.journal.specs.File.{bodies}
 use Rattle.node_spec.specs.Bodies.{entries_of, entry_in}
 use Rattle.node_core.specs.Handling.{is_ready}
 use Rattle.node_core.specs.declared.node.Node.{Node}
-use Rattle.world_model.specs.declared.outbox.Outbox.{Outbox}
-use Rattle.world_model.specs.declared.site.Place.{Place}
-use Rattle.world_model.specs.declared.site.Place.TheVariants.{Up, Down, Away}
-use Rattle.world_model.specs.declared.site.Site.{Site}
-use Rattle.world_model.specs.Sites.{SiteState}
+use Rattle.world_nodes.specs.declared.outbox.Outbox.{Outbox}
+use Rattle.world_nodes.specs.declared.site.Place.{Place}
+use Rattle.world_nodes.specs.declared.site.Place.TheVariants.{Up, Down, Away}
+use Rattle.world_nodes.specs.declared.site.Site.{Site}
+use Rattle.world_nodes.specs.Sites.{SiteState}
 
 -- ---- disks
 

@@ -1,0 +1,4 @@
+pub mod Sites
+pub mod Disks
+pub mod Nodes
+pub mod Firsts
