@@ -1,17 +1,19 @@
 -- From how a run ended to its status.
-use Rattle.std.proofs.Common.{◌≡◌, ℕ, ◌<◌, ◌≤◌, List, ◌++◌, length, Option, None, Some, Result, Ok, Err, IfSome, IsSomeAnd, IsOk, IsOkAnd, OnOk, OnErr, Bool, string_bytes, refl, sym, subst, arith}
+use Rattle.std.proofs.Common.{◌≡◌, ℕ, ◌<◌, ◌≤◌, List, ◌++◌, length, Option, None, Some, Result, Ok, Err, IfSome, IsSomeAnd, IsOk, IsOkAnd, OnOk, OnErr, Bool, String, string_bytes, refl, sym, subst, arith}
 use Rattle.std.specs.Io.KnownBytes.{Appends}
+use Rattle.std.specs.declared.alloc.Global.{Global}
 use Rattle.config_text.specs.Faults.{json, field}
 use Rattle.wire_core.specs.declared.node.NodeId.{NodeId}
 use Rattle.outside_io.specs.Faults.{Rose}
 use Rattle.outside_io.specs.Host.{HostCall}
 use Rattle.ananta_top.specs.Answers.{Task, write, serve, NoAnswer, answer_of, bad_config, bad_line, no_form}
 use Rattle.ananta_top.specs.Node.{NodeRan, damaged_line}
-use Rattle.ananta_top.specs.Run.{AfterReading, DamageIn, DamageIsOf, EndsBy, FirstIs, HasStatusBy, IfServed, IsAfterReading, IsAnswerable, IsBeforeHost, IsDoneBy, IsOfSchedule, IsOfText, IsTooLong, LeavesHost, NeedsNoHost, NodeEnds, OfSchedule, OfText, StaysAway, TellsDamage, TellsLine, ending_line, first_fault, no_answer_line, status_of}
+use Rattle.ananta_top.specs.Run.{AfterReading, DamageIn, DamageIsOf, EndsBy, FirstIs, HasStatusBy, IfServed, IsAfterReading, IsAnswerable, IsBeforeHost, IsDoneBy, IsOfSchedule, IsOfText, IsTooLong, LeavesHost, NeedsNoHost, NodeEnds, OfSchedule, OfText, ReplayedAs, StaysAway, TellsDamage, TellsLine, ending_line, first_fault, no_answer_line, status_of}
 use Rattle.ananta_top.specs.declared.ending.Ending.{Ending}
 use Rattle.ananta_top.specs.declared.ending.Ending.TheVariants as ending
 use Rattle.ananta_top.specs.declared.ending.Status.TheVariants as status
 use Rattle.ananta_top.specs.declared.refusal.Refusal.TheVariants as refusal
+use Rattle.ananta_top.specs.declared.refusal.ReplayFault.{ReplayFault}
 use Rattle.ananta_top.specs.declared.words.Job.{Job}
 use Rattle.ananta_top.specs.declared.words.Job.TheVariants.{Replay, Summary, Check, Generate, Node}
 use Rattle.ananta_top.proofs.Ran.{damage_told}
@@ -86,6 +88,12 @@ stays_away (Some Summary) e k = tt
 stays_away (Some Check) e k = tt
 stays_away (Some (Generate number count)) e k = tt
 stays_away (Some (Node role index turns)) e k = leaves e k
+
+-- what was replayed and written is safe
+pub done_safe : {X : Type 0} (e : Ending) (r : Result (String Global) ReplayFault) → ReplayedAs e r → OnOk r X
+    → e ≡ ending.Done → X
+done_safe e (Ok text) how safe is = safe
+done_safe e (Err fault) how safe is = absurd (subst (λ (w : Ending). ReplayedAs w (Err fault)) is how)
 
 -- ---- each answer is given
 

@@ -4,6 +4,7 @@ use Rattle.std.specs.Fmt.{decimal}
 use Rattle.std.specs.declared.alloc.Global.{Global}
 use Rattle.std.specs.Io.KnownBytes.{Appends, IsAtEnd}
 use Rattle.config_text.specs.Faults.{Fault, json, field}
+use Rattle.node_schedule.specs.Safety.{IsSafeText}
 use Rattle.plain_schedule.specs.Safety.{IsAlwaysSafe}
 use Rattle.wire_core.specs.declared.node.NodeId.{NodeId}
 use Rattle.vip_config.specs.declared.parts.ConfigParts.{ConfigParts}
@@ -68,10 +69,10 @@ IsBadConfig (Err no_form) = ⊥
 IsBadConfig (Err (bad_line n)) = ⊥
 IsBadConfig (Err (bad_config fault)) = Unit {0}
 
--- Each moment of a plain schedule is safe. Of a schedule of nodes nothing is said yet.
+-- each moment of a plain schedule, or of the run of a schedule of nodes
 abbrev pub IsSafeBy : (plain : Bool) → List ℕ → Type 0
 IsSafeBy true text = IsAlwaysSafe text
-IsSafeBy false text = Unit {0}
+IsSafeBy false text = IsSafeText text
 
 abbrev pub IsSafeSchedule : List ℕ → Type 0
 IsSafeSchedule text = IsSafeBy (is_plain text) text

@@ -1,5 +1,6 @@
-ghost use Rattle.std.specs.Prelude.{◌≡◌, ◌≤◌, IfOk, Ok, length, string_bytes};
+ghost use Rattle.std.specs.Prelude.{◌≡◌, ◌≤◌, IfOk, Ok, OnOk, length, string_bytes};
 ghost use Rattle.generated_schedule.specs.Generated.{generated};
+ghost use Rattle.node_schedule.specs.Safety.{IsSafeText};
 ghost use Rattle.node_schedule.specs.Schedule.{node_lines};
 ghost use Rattle.plain_schedule.specs.Safety.{IsAlwaysSafe};
 ghost use Rattle.plain_schedule.specs.Schedule.{plain_lines};
@@ -42,6 +43,7 @@ fn replay_plain(alloc: Global, text: &[u8]) -> Result<String, ReplayFault>
 fn replay_nodes(alloc: Global, text: &[u8]) -> Result<String, ReplayFault>
     requires { length text.now ≤ INPUT_LIMIT }
     ensures answer { Replays result (lines_of (of_nodes (node_lines text.now))) }
+    ensures safe { OnOk result (IsSafeText text.now) }
 {
     match node_lines(alloc, text) {
         Ok(lines) => Ok(lines),
@@ -57,7 +59,7 @@ fn replay_nodes(alloc: Global, text: &[u8]) -> Result<String, ReplayFault>
 pub fn replay(alloc: Global, text: &[u8]) -> Result<String, ReplayFault>
     requires { length text.now ≤ INPUT_LIMIT }
     ensures answer { Replays result (answer Replay text.now) }
-    ensures safe { IsSafeSchedule text.now }
+    ensures safe { OnOk result (IsSafeSchedule text.now) }
 {
     if is_plain(text) {
         replay_plain(alloc, text)
@@ -79,7 +81,7 @@ fn summary_of(alloc: Global, lines: &[u8]) -> Result<String, NoMemory>
 pub fn summarize(alloc: Global, text: &[u8]) -> Result<String, ReplayFault>
     requires { length text.now ≤ INPUT_LIMIT }
     ensures answer { Replays result (answer Summary text.now) }
-    ensures safe { IsSafeSchedule text.now }
+    ensures safe { OnOk result (IsSafeSchedule text.now) }
 {
     match replay(alloc, text) {
         Ok(lines) => match summary_of(alloc, lines.as_bytes()) {

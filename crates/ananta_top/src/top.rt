@@ -65,7 +65,7 @@ fn respond<K: Sink, H: Host, C: Clock>(
     requires lines { IsWithinLines job }
     requires within { length text.now ≤ INPUT_LIMIT }
     ensures done { result ≡ Ending.Done → Printed (answer job) (K.written out.old) (K.written out.new) text.now }
-    ensures safe { IsSafeFor (Some job) text.now }
+    ensures safe { result ≡ Ending.Done → IsSafeFor (Some job) text.now }
     ensures first { FirstIs result (answer job text.now) }
     ensures damage { DamageIn result (answer job text.now) }
     ensures node { IfServed (answer job text.now) (λ cfg who turns. NodeRan cfg who turns (C.times clock.old)

@@ -11,6 +11,7 @@
 //! | what a text says, and its transcript | `Schedule` |
 //! | the code's nodes and the tables | `Roles` |
 //! | what is answered | `Answers` |
+//! | that the run is safe | `Safety` |
 #![tactic(auto)]
 
 mod fault;

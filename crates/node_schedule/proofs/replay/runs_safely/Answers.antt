@@ -1,0 +1,11 @@
+use Rattle.node_schedule.proofs.Safe.{safe_lines}
+use Rattle.node_schedule.proofs.replay.runs_safely.Goals as goal
+
+pub returns : goal.returns
+returns c =
+    safe_lines c.always_safe.ensures.read c.args.cfg.now
+    (record {
+      rules = c.keeps_rules.ensures.rules;
+      lengths = c.keeps_rules.ensures.lengths;
+      owners = c.keeps_rules.ensures.owners;
+    }) c.args.lines.now
