@@ -11,7 +11,7 @@ use Rattle.node_roles.specs.Roles as role
 use Rattle.world_spec.specs.Nodes.{Lists, OfManager, OfMux, OfAgent, node_turn, opened}
 use Rattle.world_spec.specs.Transcript.{transcript_text}
 use Rattle.world_model.specs.Shown.{IsTranscript}
-use Rattle.world_model.specs.Sites.{deciding}
+use Rattle.world_nodes.specs.Sites.{deciding}
 use Rattle.node_schedule.specs.Roles.{RolesFollow, role_of}
 use Rattle.node_schedule.specs.Schedule.{NoSchedule}
 

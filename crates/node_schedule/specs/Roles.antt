@@ -6,7 +6,7 @@ use Rattle.node_roles.specs.declared.role.Role.{Role}
 use Rattle.node_roles.specs.declared.role.Role.TheVariants.{Replica, Mux, Agent}
 use Rattle.world_spec.specs.Nodes.{Lists, OfManager, OfMux, OfAgent}
 use Rattle.world_model.specs.Shown.{FollowsTables}
-use Rattle.world_model.specs.Sites.{deciding}
+use Rattle.world_nodes.specs.Sites.{deciding}
 
 -- what decides in a node with these lists, under a configuration
 abbrev pub role_of : ConfigParts → Lists → Role

@@ -18,7 +18,7 @@ use Rattle.world_spec.specs.declared.views.Held.{Held}
 use Rattle.world_laws.specs.Safety.{IsHeld, inner_end, outer_end, range_held}
 use Rattle.world_laws.specs.Hearing.{IsSound}
 use Rattle.world_model.specs.Shown.{FollowsTables, StandsFor, shown, shown_site}
-use Rattle.world_model.specs.Sites.{Deciding, Opening, SiteState}
+use Rattle.world_nodes.specs.Sites.{Deciding, Opening, SiteState}
 use Rattle.world_model.specs.World as model
 use Rattle.world_model.specs.World.{Outcome, WorldState}
 use Rattle.world_model.proofs.ShownFirsts.{first_shown}

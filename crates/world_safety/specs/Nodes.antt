@@ -11,7 +11,7 @@ use Rattle.world_spec.specs.Views.{conns_of, held_of}
 use Rattle.world_spec.specs.declared.views.Held.{Held}
 use Rattle.world_laws.specs.Safety.{IsHeld, inner_end, outer_end, range_held}
 use Rattle.world_model.specs.Firsts.{first_world}
-use Rattle.world_model.specs.Sites.{Deciding, Opening}
+use Rattle.world_nodes.specs.Sites.{Deciding, Opening}
 use Rattle.world_model.specs.World.{WorldState, applied}
 
 -- ---- what is seen of real nodes, where see tells the lists of a core

@@ -6,7 +6,7 @@ ghost use Rattle.vip_config.specs.declared.parts.ConfigParts.{ConfigParts};
 ghost use Rattle.wire_core.specs.Members.{Each};
 ghost use Rattle.world_laws.specs.Hearing.{IsSound};
 ghost use Rattle.world_model.specs.Shown.{FollowsTables, StandsFor};
-ghost use Rattle.world_model.specs.Sites.{deciding};
+ghost use Rattle.world_nodes.specs.Sites.{deciding};
 ghost use Rattle.world_model.specs.World.{WorldState};
 ghost use Rattle.world_safety.specs.Nodes.{NodesAreSafe, Sees, played};
 ghost use Rattle.world_safety.specs.Safety.{HasOneHolder, IsAlwaysSafe, IsSafe};

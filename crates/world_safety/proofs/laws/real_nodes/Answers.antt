@@ -1,5 +1,5 @@
 -- A world of real nodes is as safe as the one by the tables.
-use Rattle.world_model.specs.Sites.{deciding}
+use Rattle.world_nodes.specs.Sites.{deciding}
 use Rattle.world_safety.proofs.RealNodes.{played_safe, stands_safe}
 use Rattle.world_safety.proofs.laws.real_nodes.Goals as goal
 
