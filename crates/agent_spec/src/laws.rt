@@ -92,11 +92,12 @@ pub fn leases()
 {}
 
 /// Each connection goes through a held range of its machine that has its port, each held range counts its connections
-/// and is one that its machine may have, and there are at most 65536: so it opens, and so it stays over each turn, under
-/// a configuration that keeps the rules.
+/// and is one that its machine may have, and there are at most 65536: so it opens, and so it stays over each turn,
+/// under a configuration that keeps the rules.
 pub fn connections_are_held()
     ensures opened { (c : ConfigParts) (index : ℕ) (entries : List Entry)
-        → ConnsAreHeld c (opened_agent c index entries).traffic.conns (opened_agent c index entries).traffic.ranges.held }
+        → ConnsAreHeld c (opened_agent c index entries).traffic.conns
+            (opened_agent c index entries).traffic.ranges.held }
     ensures turn { (c : ConfigParts) (a : Agent) (x : Input) → KeepsRules c → KeysApart a.traffic.conns
         → HeldApart a.traffic.ranges → ConnsAreHeld c a.traffic.conns a.traffic.ranges.held
         → ConnsAreHeld c (agent_step c a x).state.traffic.conns (agent_step c a x).state.traffic.ranges.held }

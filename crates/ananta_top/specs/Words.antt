@@ -78,7 +78,8 @@ in_five_words word first second third fourth =
 
 -- ---- all words
 
--- the one word `replay` or `check`, `replay --summary`, `generate` with its two numbers, or `node` with what is behind it
+-- the one word `replay` or `check`, `replay --summary`, `generate` with its two numbers, or `node` with what is
+-- behind it
 abbrev pub job_of : List (String Global) → Option Job
 job_of [] = None
 job_of (word ∷ []) = job_named (string_bytes word)

@@ -174,9 +174,9 @@ pub fn run<S: Source, K: Sink, H: Host, C: Clock>(
     host: &mut H,
     clock: &mut C,
 ) -> Status
-    // The headline: what was written is exactly the answer, what the schedule prints, the line of the configuration, the
-    // schedule of a number or the line of a node's turns; the input was read to its end; and each moment of a schedule
-    // was safe.
+    // The headline: what was written is exactly the answer, what the schedule prints, the line of the configuration,
+    // the schedule of a number or the line of a node's turns; the input was read to its end; and each moment of a
+    // schedule was safe.
     ensures done { result ≡ Status.Done
         → IfSome (given words.now (S.left input.old))
         (Printed (answered words.now) (K.written out.old) (K.written out.new)) }
@@ -184,8 +184,8 @@ pub fn run<S: Source, K: Sink, H: Host, C: Clock>(
     ensures safe { result ≡ Status.Done
         → IfSome (given words.now (S.left input.old)) (IsSafeFor (job_of words.now)) }
 
-    // A node: which calls host and clock saw, what was sent, what its disks are left with, and the line of its turns, by
-    // how its run ended.
+    // A node: which calls host and clock saw, what was sent, what its disks are left with, and the line of its turns,
+    // by how its run ended.
     ensures node { IsAfterReading result → IfSome (given words.now (S.left input.old))
         (λ text. IfServed (answered words.now text) (λ cfg who turns. NodeEnds cfg who turns (C.times clock.old)
         (C.times clock.new) (H.calls host.old) (H.calls host.new) (K.written out.old) (K.written out.new)

@@ -1,4 +1,4 @@
 mod Json
 mod Lists
-mod Sized
+pub mod Sized
 mod Unlisted

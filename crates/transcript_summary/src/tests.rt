@@ -27,7 +27,8 @@ fn each_line_counts_as_its_kind(rt: HostRuntime) -> Result<(), Fail> {
         b"event deliver 47\nact hold 1\n\
         act open udp 192.0.2.10 1024 198.51.100.7 53 10.1.0.4 5000\n\
         sent 48 agent 0 10.7.0.1:7000 02\nevent crash agent 0\nact lose agent 0\nevent deliver 48\noutside\n\
-        event tick agent 0 1\ndown\nevent deliver 26\ndrop Late\nact free 1\nact freed 1\nact drop 1\nqueued 10.1.0.4 1\n",
+        event tick agent 0 1\ndown\nevent deliver 26\ndrop Late\nact free 1\nact freed 1\nact drop 1\n\
+        queued 10.1.0.4 1\n",
     )?;
     assert_eq!(rt;
         out.as_str(),

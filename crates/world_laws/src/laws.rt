@@ -87,14 +87,14 @@ pub fn reasons()
         → Each (HaveReasons (world cfg bs)) (log (world cfg bs)) }
 {}
 
-/// In every world a Grant that a replica sent is of a lease that was granted, to the agent, boot, machine and range that
-/// it was born with.
+/// In every world a Grant that a replica sent is of a lease that was granted, to the agent, boot, machine and range
+/// that it was born with.
 pub fn grants()
     ensures { (cfg : ConfigParts) → IsSound cfg → (bs : List Basic) → AreNamed cfg bs
         → Each (AnswersAreTrue cfg (world cfg bs)) (world cfg bs).sent }
 {}
 
-/// In every world an agent runs in the boot of its disk; it told of no later one, and gave back leases of its own alone.
+/// In every world an agent runs in the boot of its disk; it told of no later one, and gave back its own leases alone.
 /// Each number that it holds is a lease of its own of this boot, on that range, to that machine; what it gave back in
 /// this boot isn't held, and is at most the kept number of its range; and its connections go through held ranges.
 pub fn agents()
@@ -102,8 +102,8 @@ pub fn agents()
         → Holds (AgentsTellTheirOwn cfg) AnyEntry (AgentsAreRight cfg) (world cfg bs) }
 {}
 
-/// In every world, whatever was lost, late, repeated or crashed: each range that an agent holds is Leased in the book, to
-/// that machine, agent and boot; no two held ranges, of any agents, are one range; no two live connections, of any
+/// In every world, whatever was lost, late, repeated or crashed: each range that an agent holds is Leased in the book,
+/// to that machine, agent and boot; no two held ranges, of any agents, are one range; no two live connections, of any
 /// agents, share a public key or a private key; and each goes through a range that its machine holds.
 pub fn safety()
     ensures leased { (cfg : ConfigParts) → IsSound cfg → (bs : List Basic) → AreNamed cfg bs
