@@ -97,7 +97,7 @@ pub fn leases()
 pub fn connections_are_held()
     ensures opened { (c : ConfigParts) (index : ℕ) (entries : List Entry)
         → ConnsAreHeld c (opened_agent c index entries).traffic.conns
-            (opened_agent c index entries).traffic.ranges.held }
+        (opened_agent c index entries).traffic.ranges.held }
     ensures turn { (c : ConfigParts) (a : Agent) (x : Input) → KeepsRules c → KeysApart a.traffic.conns
         → HeldApart a.traffic.ranges → ConnsAreHeld c a.traffic.conns a.traffic.ranges.held
         → ConnsAreHeld c (agent_step c a x).state.traffic.conns (agent_step c a x).state.traffic.ranges.held }
