@@ -50,8 +50,3 @@ mod using;
 mod wrapped;
 
 pub use agent::Agent;
-
-#[cfg(test)]
-mod event_tests;
-#[cfg(test)]
-mod tests;
