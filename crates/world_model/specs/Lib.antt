@@ -2,3 +2,5 @@ pub mod World
 pub mod Firsts
 pub mod Sound
 pub mod Shown
+pub mod Overflows
+pub mod Runs
