@@ -37,7 +37,7 @@ count_both front a u =
 -- nothing is no such line
 count_none : (front : List ℕ) → begins front [] ≡ false → lines_with front [] ≡ 0
 unfolding lines_with
-count_none front none = ap (λ (b : Bool). cond b 1 0 + 0) none
+count_none front none = ap (λ (b : Bool). 0 + cond b 1 0) none
 
 lines_more : (front text more : List ℕ) → begins front [] ≡ false → IsWhole text
     → lines_with front (text ++ more) ≡ lines_with front text + lines_with front more

@@ -1,5 +1,5 @@
-ghost use Rattle.std.specs.Prelude.{◌≡◌, ◌++◌, codes, IfOk, OnOk};
-ghost use Rattle.transcript_summary.specs.Summary.{added, counts_of, lease_counts, leases_added, lines_with, traffic_added, traffic_counts};
+ghost use Rattle.std.specs.Prelude.{◌≡◌, ◌+◌, IfOk};
+ghost use Rattle.transcript_summary.specs.Summary.{added, counts_of, lease_counts, leases_added, traffic_added, traffic_counts};
 
 use crate::lines::lines_with;
 use std::alloc::AllocError;

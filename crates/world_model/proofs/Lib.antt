@@ -9,3 +9,4 @@ pub mod Standing
 pub mod Passing
 pub mod Advances
 pub mod Counted
+pub mod ShownOverflows

@@ -3,4 +3,5 @@ pub mod Firsts
 pub mod Sound
 pub mod Shown
 pub mod Overflows
+pub mod TableOverflows
 pub mod Runs

@@ -9,6 +9,7 @@ ghost use Rattle.world_model.specs.Overflows.{run_overflow};
 ghost use Rattle.world_model.specs.Runs.{overflow_left, run_text, text_left};
 ghost use Rattle.world_model.specs.Shown.{IsTranscript};
 ghost use Rattle.world_model.specs.Sound.{IsSound, world_of};
+ghost use Rattle.world_model.specs.TableOverflows.{IsRunOverflow};
 
 use crate::advancing::{Progress, advance};
 use crate::world::World;
@@ -39,7 +40,8 @@ fn count_run<C: Core>(
     let mut counts = Counts::of(b"".as_slice());
     let mut progress = Progress { at: 0, left: 0 };
     loop {
-        if !advance(alloc, cfg, world, events, &mut progress, text)? {
+        let more = advance(alloc, cfg, world, events, &mut progress, text)?;
+        if !more {
             return Ok(counts);
         }
         counts = counts.with(&Counts::of(text.as_bytes()))?;
@@ -61,6 +63,8 @@ pub fn count_lines<C: Core>(
         (run_text (deciding C.step C.written) C.opened cfg.now events.now) }
     ensures full { FullsBy (run_overflow (deciding C.step C.written) C.opened (first_world C.opened cfg.now) events.now)
         result }
+    ensures overflow { IsRunOverflow (deciding C.step C.written) C.opened cfg.now events.now
+        (run_overflow (deciding C.step C.written) C.opened (first_world C.opened cfg.now) events.now) }
 {
     follows_tables::<C>(cfg, events);
     let mut world = World::<C>::new(alloc, cfg.copy(alloc)?)?;

@@ -12,6 +12,7 @@ ghost use Rattle.world_model.specs.Overflows.{cut_deliver_overflow_at, cut_input
 ghost use Rattle.world_model.specs.Shown.{IsLentFor, IsUpFor, StandsAfter, StandsFirst};
 ghost use Rattle.world_nodes.specs.Firsts.{MayOpen};
 ghost use Rattle.world_model.specs.Sound.{IsSound, world_of};
+ghost use Rattle.world_model.specs.TableOverflows.{OverflowsAsTables};
 ghost use Rattle.world_model.specs.World.{applied, crash, cut_deliver, cut_input, cut_opening, cut_restart, deliver, during, input, onto, restart, settle, single};
 
 use crate::spreading::{home, same_node, say, say_cut, say_fallen, say_opened, spread};
@@ -357,7 +358,16 @@ impl<C: Core> World<C> {
         }
     }
 
-    /// An event happens. Gives its lines behind the event's own.
+    // An event finds no room where the tables find none.
+    fn overflows_as_tables(&self, event: &Event)
+        ensures { OverflowsAsTables (deciding C.step C.written) C.opened (world_of self.now) event.now }
+    {
+        let _ = event;
+        self.cfg.keeps_rules();
+    }
+
+    /// An event happens. Gives its lines behind the event's own. `Full` comes exactly where the journal of the node
+    /// has no room for what the event makes it write.
     pub fn apply(&mut self, event: &Event) -> Result<LineList, WorldFault>
         requires sound { IsSound C.may_open self.old }
         ensures sound { OnOk result (IsSound C.may_open self.new) }
@@ -366,7 +376,9 @@ impl<C: Core> World<C> {
         ensures stands { IfOk result (λ lines. StandsAfter (deciding C.step C.written) C.opened (world_of self.old)
             event.now (world_of self.new) lines) }
         ensures full { FullsBy (event_overflow (deciding C.step C.written) (world_of self.old) event.now) result }
+        ensures tables { OverflowsAsTables (deciding C.step C.written) C.opened (world_of self.old) event.now }
     {
+        self.overflows_as_tables(event);
         self.cfg.keeps_rules();
         let mut lines = Vec::new(self.alloc);
         self.happen(event, &mut lines)?;

@@ -9,6 +9,7 @@ ghost use Rattle.world_model.specs.Overflows.{run_overflow};
 ghost use Rattle.world_model.specs.Runs.{Front, Passed, ReplayFulls, WritesFail, overflow_left, run_text, text_left};
 ghost use Rattle.world_model.specs.Shown.{IsTranscript};
 ghost use Rattle.world_model.specs.Sound.{IsSound, world_of};
+ghost use Rattle.world_model.specs.TableOverflows.{IsRunOverflow};
 
 use crate::advancing::{Progress, advance};
 use crate::fault::ReplayFault;
@@ -59,17 +60,21 @@ fn write_run<C: Core, K: Sink>(
 {
     let mut progress = Progress { at: 0, left: 0 };
     loop {
-        if !advance(alloc, cfg, world, events, &mut progress, text)? {
+        let more = advance(alloc, cfg, world, events, &mut progress, text)?;
+        if !more {
             return Ok(pass_on(out, text)?);
         }
         pass_long(out, text)?;
     }
 }
 
-/// What a run under a configuration writes is the transcript by the tables, where what decides follows them.
+/// What a run under a configuration writes is the transcript by the tables, and it finds no room where they find none,
+/// where what decides follows them.
 pub(crate) fn follows_tables<C: Core>(cfg: &Config, events: &[Event])
-    ensures { IsTranscript (deciding C.step C.written) C.opened cfg.now events.now
+    ensures transcript { IsTranscript (deciding C.step C.written) C.opened cfg.now events.now
         (run_text (deciding C.step C.written) C.opened cfg.now events.now) }
+    ensures overflow { IsRunOverflow (deciding C.step C.written) C.opened cfg.now events.now
+        (run_overflow (deciding C.step C.written) C.opened (first_world C.opened cfg.now) events.now) }
 {
     let _ = events;
     cfg.keeps_rules();
@@ -94,6 +99,8 @@ pub fn replay<C: Core, K: Sink>(
     ensures write { WritesFail (K.faults out.old) (K.faults out.new) result }
     ensures full { ReplayFulls (run_overflow (deciding C.step C.written) C.opened (first_world C.opened cfg.now)
         events.now) result }
+    ensures overflow { IsRunOverflow (deciding C.step C.written) C.opened cfg.now events.now
+        (run_overflow (deciding C.step C.written) C.opened (first_world C.opened cfg.now) events.now) }
 {
     follows_tables::<C>(cfg, events);
     let mut world = World::<C>::new(alloc, cfg.copy(alloc)?)?;
