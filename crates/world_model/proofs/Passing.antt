@@ -1,7 +1,7 @@
 -- A text that is written piece by piece, and what is answered of it.
 use Rattle.std.proofs.Common.{◌≡◌, ◌≤◌, ℕ, ◌+◌, ◌^◌, ◌-◌, List, [], ◌∷◌, ◌++◌, length, take, Option, Some, None, Result, Ok, Err, refl, sym, ap, subst, ◌∙◌, append_assoc, append-nil, arith}
 use Rattle.std.specs.Prelude.{min}
-use Rattle.std.proofs.Math.Seq.{take-append_seam, take-append-add}
+use Rattle.std.proofs.Math.Seq.{take-append_seam, take-append-add, take-length}
 use Rattle.std.proofs.lemmas.List.{take-append-le, take_min}
 use Rattle.std.specs.Io.KnownBytes.{Appends}
 use Rattle.outside_io.specs.Faults.{Rose}
@@ -29,6 +29,9 @@ passed_all a b left text is none = record {
 pub front_none : (a : Option (List ℕ)) (text : List ℕ) → Front a a text
 front_none a text = (0, append_none a)
 
+pub front_all : (a b : Option (List ℕ)) (text : List ℕ) → Appends a b text → Front a b text
+front_all a b text is = (length text, subst (Appends a b) (sym (take-length text)) is)
+
 -- all that was written is a front of the whole
 pub front_of : (a b : Option (List ℕ)) (left text : List ℕ) → Passed a b left text → Front a b text
 front_of a b left text is = (
@@ -55,7 +58,7 @@ module _ (a b c : Option (List ℕ)) (part rest left text : List ℕ) (is : Pass
   front_then front = (
     length is.written + min front.0 (length part),
     subst (Appends a c) (taken front.0 ∙ ap (take (length is.written + min front.0 (length part))) all)
-    (append_then a b c is.written (take front.0 part) is.appended front.1),
+        (append_then a b c is.written (take front.0 part) is.appended front.1),
   )
 
   -- a part of it is passed on, and something stays
