@@ -40,13 +40,13 @@ front_of a b left text is = (
 )
 
 module _ (a b c : Option (List ℕ)) (part rest left text : List ℕ) (is : Passed a b left text) (split : left ≡ part ++ rest) where
-  abbrev whole : List ℕ
-  whole = is.written ++ (part ++ rest)
+  abbrev entire : List ℕ
+  entire = is.written ++ (part ++ rest)
 
-  all : whole ≡ text
+  all : entire ≡ text
   all = ap (λ (l : List ℕ). is.written ++ l) (sym split) ∙ is.whole
 
-  taken : (n : ℕ) → is.written ++ take n part ≡ take (length is.written + min n (length part)) whole
+  taken : (n : ℕ) → is.written ++ take n part ≡ take (length is.written + min n (length part)) entire
   taken n =
       let few : min n (length part) ≤ length part = omega arith in
       ap (λ (l : List ℕ). is.written ++ l)
