@@ -107,7 +107,8 @@ module _ {C : Type 0} (step : Deciding C) (recover : Opening C) (cfg : ConfigPar
       regroup after (text_of cfg (settle step m u).1) before
       (printed_line cfg (line.Event e) ++ text_of cfg (applied step recover w e).1)
       (text_of cfg (lines_from step recover (settle step m u).0 rest))
-      (text_of cfg (lines_from step recover (applied step recover w e).0 rest)) text
+      (text_of cfg (lines_from step recover (applied step recover w e).0 rest))
+      (text ∙ append_assoc before (printed_line cfg (line.Event e)) (text_of cfg (applied step recover w e).1))
       (ap (λ (v : WorldState C). text_of cfg (lines_from step recover v rest)) world)
       ∙ ap (λ (l : List ℕ). before ++ l) (sym (begun_text w n e es rest none split))
 
@@ -178,7 +179,6 @@ module _ {C : Type 0} (step : Deciding C) (recover : Opening C) (cfg : ConfigPar
       ≡ before ++ printed_line cfg (line.Event e) ++ text_of cfg (applied step recover w e).1
   settle_text w n e before after is adds =
       ap (λ (l : List ℕ). l ++ text_of cfg (settle step n w).1) adds
-      ∙ append_assoc before (printed_line cfg (line.Event e)) (text_of cfg (settle step n w).1)
       ∙ ap (λ (r : Outcome C). before ++ printed_line cfg (line.Event e) ++ text_of cfg r.1) (settle_begins w n e is)
 
   -- of another one also its lines
@@ -190,7 +190,6 @@ module _ {C : Type 0} (step : Deciding C) (recover : Opening C) (cfg : ConfigPar
       append-nil after
       ∙ adds
       ∙ ap (λ (l : List ℕ). l ++ text_of cfg lines) own
-      ∙ append_assoc before (printed_line cfg (line.Event e)) (text_of cfg lines)
       ∙ ap (λ (o : Outcome C). before ++ printed_line cfg (line.Event e) ++ text_of cfg o.1) is
 
   pub other_world : (u : WorldState C) (r : Outcome C) (lines : List Line) → (u, lines) ≡ onto [] r

@@ -88,10 +88,10 @@ passed_as a b left other text same is = subst (λ (l : List ℕ). Passed a b l t
 pub rose_later : (a b c : ℕ) → a ≤ b → Rose b c → Rose a c
 rose_later a b c le rose = omega (arith, le, rose)
 
-pub no_write : (T : Type 0) (before now : ℕ) (f : WorldFault) → WritesFail {T} before now (Err (replay_fault f))
+pub no_write : (T : Type 0) (before now : ℕ) (f : WorldFault) → WritesFail {T = T} before now (Err (replay_fault f))
 no_write T before now NoMemory = tt
 no_write T before now (Full n body) = tt
 
-pub full_of : (T : Type 0) (o p : Option Overflow) (f : WorldFault) → o ≡ p → IsFaultOf o f → ReplayFulls {T} p (Err (replay_fault f))
+pub full_of : (T : Type 0) (o p : Option Overflow) (f : WorldFault) → o ≡ p → IsFaultOf o f → ReplayFulls {T = T} p (Err (replay_fault f))
 full_of T o p NoMemory same is = tt
 full_of T o p (Full n body) same is = sym same ∙ is

@@ -1,5 +1,6 @@
 use Rattle.std.proofs.Common.{rules, ◌≡◌, ◌<◌, ◌≤◌, ◌+◌, ◌-◌, ◌++◌, ◌∷◌, [], ℕ, List, Some, None, false, length, drop, refl, sym, ap, subst, ◌∙◌, arith}
 use Rattle.std.specs.Prelude.{is_some, string_bytes}
+use Rattle.std.proofs.lemmas.Result.{err_from_is_err_and}
 use Rattle.schedule_text.specs.Transcript.{printed_line}
 use Rattle.schedule_text.specs.declared.line.Line.TheVariants as line
 use Rattle.world_mail.specs.Mails.{least_waiting}
@@ -82,3 +83,9 @@ returns-then-not-more-clause-room g c =
     let quiet : false ≡ is_some (least_waiting (world_of c.args.world.now).mail) = search rules in
     room_done (deciding g.C.Core.step g.C.Core.written) (world_of c.settle_one.new.self) 0 refl
     ∙ sym (room_quiet (deciding g.C.Core.step g.C.Core.written) (world_of c.args.world.now) c.args.left quiet)
+
+pub returns-in_err-more-clause-full : goal.returns-in_err-more-clause-full
+returns-in_err-more-clause-full g c =
+    let q = err_from_is_err_and c.from_residual.result c.from_residual.ensures.1 in
+    rw (q.1, q.2) (full_first (deciding g.C.Core.step g.C.Core.written) (world_of c.args.world.now) c.args.left c.in_err-more.field-0.0 c.requires.some
+    c.in_err-more.ensures.full)

@@ -1,8 +1,9 @@
 use Rattle.std.proofs.Common.{rules, ◌≡◌, ◌<◌, ◌++◌, ◌∷◌, [], Some, None, false, sym, subst, ◌∙◌}
-use Rattle.std.specs.Prelude.{is_some}
+use Rattle.std.specs.Prelude.{is_some, Option}
+use Rattle.std.proofs.lemmas.Result.{err_from_is_err_and}
 use Rattle.schedule_text.specs.declared.line.Line.TheVariants as line
 use Rattle.world_mail.specs.Mails.{least_waiting}
-use Rattle.world_nodes.specs.Overflows.{IsFaultOf}
+use Rattle.world_nodes.specs.Overflows.{IsFaultOf, Overflow}
 use Rattle.world_nodes.specs.Sites.{deciding}
 use Rattle.world_model.specs.Overflows.{deliver_overflow, settle_overflow}
 use Rattle.world_model.specs.Sound.{world_of}
@@ -55,3 +56,11 @@ returns-clause-full g c =
     let done : c.loop-left.left ≡ 0 = search rules in
     sym c.loop-left.invariant.room
     ∙ room_done (deciding g.C.Core.step g.C.Core.written) (world_of c.loop-left.self) c.loop-left.left done
+
+pub returns-in_err-settle_one-clause-full : goal.returns-in_err-settle_one-clause-full
+returns-in_err-settle_one-clause-full g c =
+    let q = err_from_is_err_and c.from_residual.result c.from_residual.ensures.1 in
+    let some : 0 < c.loop-left.left = search rules in
+    rw (q.1, q.2) (subst (λ (o : Option Overflow). IsFaultOf o c.in_err-settle_one.field-0.0) c.loop-left.invariant.room
+    (full_first (deciding g.C.Core.step g.C.Core.written) (world_of c.loop-left.self) c.loop-left.left c.in_err-settle_one.field-0.0 some
+    c.in_err-settle_one.ensures.full))

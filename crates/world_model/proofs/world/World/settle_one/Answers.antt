@@ -1,8 +1,9 @@
 use Rattle.std.proofs.Common.{rules, ◌≡◌, ◌<◌, ◌++◌, ◌∷◌, [], Some, None, false, sym, subst, ◌∙◌}
-use Rattle.std.specs.Prelude.{is_some}
+use Rattle.std.specs.Prelude.{is_some, Option}
+use Rattle.std.proofs.lemmas.Result.{err_from_is_err_and}
 use Rattle.schedule_text.specs.declared.line.Line.TheVariants as line
 use Rattle.world_mail.specs.Mails.{least_waiting}
-use Rattle.world_nodes.specs.Overflows.{IsFaultOf}
+use Rattle.world_nodes.specs.Overflows.{IsFaultOf, Overflow}
 use Rattle.world_nodes.specs.Sites.{deciding}
 use Rattle.world_model.specs.Overflows.{deliver_overflow, settle_overflow}
 use Rattle.world_model.specs.Sound.{world_of}
@@ -36,3 +37,12 @@ returns-clause-full g c =
     let room : deliver_overflow (deciding g.C.Core.step g.C.Core.written) (world_of c.args.self.now) c.in-Some.k ≡ None =
     search rules in
     sym (one_room (deciding g.C.Core.step g.C.Core.written) (world_of c.args.self.now) c.in-Some.k least) ∙ room
+
+pub returns-in_err-deliver-clause-full : goal.returns-in_err-deliver-clause-full
+returns-in_err-deliver-clause-full g c =
+    let q = err_from_is_err_and c.from_residual-in_err-deliver.result c.from_residual-in_err-deliver.ensures.1 in
+    let least : Some c.in-Some.k ≡ least_waiting (world_of c.args.self.now).mail = search rules in
+    let full : IsFaultOf (deliver_overflow (deciding g.C.Core.step g.C.Core.written) (world_of c.args.self.now) c.in-Some.k) c.in_err-deliver.field-0.0 =
+    search rules in
+    rw (q.1, q.2) (subst (λ (o : Option Overflow). IsFaultOf o c.in_err-deliver.field-0.0)
+    (one_room (deciding g.C.Core.step g.C.Core.written) (world_of c.args.self.now) c.in-Some.k least) full)
