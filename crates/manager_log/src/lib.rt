@@ -6,13 +6,13 @@
 //! | `log` | the replica and the lease table of its log as one, so that nobody above sees that they are two |
 //! | `queue` | the requests of agents that wait to be proposed |
 //! | `muxes` | what is known of each mux, and what it acknowledged of each row |
-//! | `holders` | which muxes have a row in their known boot |
+//! | `holding` | which muxes have a row in their known boot |
 //! | `pending` | which rows a push needn't look at |
 //! | `orders`, `push` | what muxes and agents are told of a row, and told again |
 //! | `saying` | a step of the agreement as an entry and datagrams |
 #![tactic(auto)]
 
-mod holders;
+mod holding;
 mod log;
 mod muxes;
 mod orders;
@@ -21,7 +21,7 @@ mod push;
 mod queue;
 mod saying;
 
-pub use holders::{all_acked_ever, all_near_acked, count_holders, holders};
+pub use holding::{all_acked_ever, all_near_acked, count_holders, holders};
 pub use log::{LeaseLog, MOST_SLOTS};
 pub use muxes::{boot_of, hear_again, mark, marks_at};
 pub use orders::{grant, program_all, unprogram_all};

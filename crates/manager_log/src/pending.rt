@@ -8,7 +8,7 @@ ghost use Rattle.manager_spec.specs.Orders.{after_effect, after_effects};
 ghost use Rattle.paxos_spec.specs.Acceptor.{AcceptorState};
 ghost use Rattle.wire_core.specs.declared.rules.LeaseRules.{LeaseRules};
 
-use crate::holders::{has_boot, is_acked};
+use crate::holding::{has_boot, is_acked};
 use crate::log::LeaseLog;
 use crate::muxes::{marks_at, set_marks};
 use manager_spec::{Marks, Peer};

@@ -5,7 +5,7 @@ ghost use Rattle.manager_spec.specs.Known.{is_near};
 ghost use Rattle.manager_spec.specs.Orders.{push_one};
 ghost use Rattle.node_spec.specs.Steps.{outgoing, with_sends};
 
-use crate::holders::{is_acked, is_near};
+use crate::holding::{is_acked, is_near};
 use crate::orders::{program, unprogram};
 use control_msg::Message;
 use manager_spec::{Marks, Peer};

@@ -1,7 +1,7 @@
 use Rattle.std.proofs.Common.{◌≡◌, map, filter, take}
 use Rattle.manager_spec.specs.Known.{has_boot, is_acked}
 use Rattle.manager_spec.specs.Proposal.{mux_boot}
-use Rattle.manager_log.proofs.holders.collect_holders.Given as goal
+use Rattle.manager_log.proofs.holding.collect_holders.Given as goal
 
 abbrev pub invariant-loop-peer : goal.invariant-loop-peer
 invariant-loop-peer l = l.pairs.items
