@@ -31,14 +31,6 @@ pub enum Act<'a> {
     Unread,
 }
 
-/// Five managers of one site.
-#[derive(Drop)]
-struct Cluster {
-    alloc: Global,
-    config: Config,
-    managers: Vec<Manager>,
-}
-
 fn at(ip: u32) -> Socket {
     let ip = Ip4(ip);
     Socket { ip, port: 7000 }
@@ -84,99 +76,103 @@ fn send(alloc: Global, record: &mut Record, from: Socket, to: u8, text: &str) ->
     Ok(())
 }
 
-impl Cluster {
-    fn manager(&mut self, i: u8) -> Result<&mut Manager, Fail> {
-        match self.managers.get_mut(usize::from(i)) {
-            Some(manager) => Ok(manager),
-            None => Err(Fail::new("no such replica")),
-        }
-    }
-
-    fn tick(&mut self, record: &mut Record, i: u8, now: u64) -> Result<(), Fail> {
-        let step = self.manager(i)?.handle(&Input::Tick { now })?;
-        keep(self.alloc, record, replica(i), step)
-    }
-
-    fn hear(&mut self, record: &Record, i: u8, k: usize) -> Result<Step, Fail> {
-        hear(self.manager(i)?, record, k)
-    }
-
-    fn deliver_to(&mut self, record: &mut Record, i: u8, k: usize) -> Result<(), Fail> {
-        let step = self.hear(record, i, k)?;
-        keep(self.alloc, record, replica(i), step)
-    }
-
-    fn deliver(&mut self, record: &mut Record, k: usize) -> Result<(), Fail> {
-        record.pass(k);
-        match receiver(record, k) {
-            Some(i) => self.deliver_to(record, i, k),
-            None => Ok(()),
-        }
-    }
-
-    fn deliver_each(&mut self, record: &mut Record, first: usize, last: usize) -> Result<(), Fail> {
-        for k in first..=last {
-            self.deliver(record, k)?;
-        }
-        Ok(())
-    }
-
-    fn settle(&mut self, record: &mut Record) -> Result<(), Fail> {
-        for _ in 0..MOST {
-            let k = record.next();
-            if record.count() < k {
-                return Ok(());
-            }
-            self.deliver(record, k)?;
-        }
-        Err(Fail::new("it never ends"))
-    }
-
-    /// A replica, from 0 to 4, as it opens on its journal.
-    fn recovered(&self, record: &Record, i: u8) -> Result<Manager, NoMemory> {
-        let bodies = journal(self.alloc, record.entries(), replica(i))?;
-        Manager::recover(self.alloc, &self.config, i.min(4), &bodies)
-    }
-
-    fn reopen(&self, record: &mut Record, i: u8, k: usize) -> Result<(), Fail> {
-        let mut manager = self.recovered(record, i)?;
-        begin(self.alloc, &mut manager, record, i, k)
-    }
-
-    fn play_one(&mut self, record: &mut Record, act: Act<'_>) -> Result<(), Fail> {
-        match act {
-            Act::Tick(i, now) => self.tick(record, i, now),
-            Act::Send(from, to, text) => send(self.alloc, record, from, to, text),
-            Act::Deliver(first, last) => self.deliver_each(record, first, last),
-            Act::Settle => self.settle(record),
-            Act::Reopen(i, k) => self.reopen(record, i, k),
-            Act::Rows(i) => write_rows(record, replica(i), self.manager(i)?),
-            Act::Told(text) => told(record, text),
-            Act::Unread => {
-                record.begin();
-                Ok(())
-            }
-        }
-    }
-
-    fn play_all(&mut self, record: &mut Record, acts: &[Act<'_>]) -> Result<(), Fail> {
-        for act in acts {
-            self.play_one(record, *act)?;
-        }
-        Ok(())
-    }
-}
-
-/// What a manager makes of the datagram with this number.
-fn hear(manager: &mut Manager, record: &Record, k: usize) -> Result<Step, Fail> {
+/// What a manager makes of the datagram with this number, if there is one.
+fn hear(manager: &mut Manager, record: &Record, k: usize) -> Result<Option<Step>, NoMemory> {
     let Some(mail) = record.get(k) else {
-        return Err(Fail::new("no such datagram"));
+        return Ok(None);
     };
     let input = Input::Datagram {
         from: mail.from,
         bytes: mail.bytes.as_slice(),
     };
-    Ok(manager.handle(&input)?)
+    let step = manager.handle(&input)?;
+    Ok(Some(step))
+}
+
+/// A manager gets the datagram with this number.
+fn deliver_to(
+    alloc: Global,
+    manager: &mut Manager,
+    record: &mut Record,
+    own: Socket,
+    k: usize,
+) -> Result<(), Fail> {
+    match hear(manager, record, k)? {
+        Some(step) => keep(alloc, record, own, step),
+        None => Err(Fail::new("no such datagram")),
+    }
+}
+
+fn deliver(
+    alloc: Global,
+    managers: &mut [Manager],
+    record: &mut Record,
+    k: usize,
+) -> Result<(), Fail> {
+    record.pass(k);
+    let Some(i) = receiver(record, k) else {
+        return Ok(());
+    };
+    match managers.get_mut(usize::from(i)) {
+        Some(manager) => deliver_to(alloc, manager, record, replica(i), k),
+        None => Err(Fail::new("no such replica")),
+    }
+}
+
+fn deliver_each(
+    alloc: Global,
+    managers: &mut [Manager],
+    record: &mut Record,
+    first: usize,
+    last: usize,
+) -> Result<(), Fail> {
+    for k in first..=last {
+        deliver(alloc, managers, record, k)?;
+    }
+    Ok(())
+}
+
+fn settle(alloc: Global, managers: &mut [Manager], record: &mut Record) -> Result<(), Fail> {
+    for _ in 0..MOST {
+        let k = record.next();
+        if record.count() < k {
+            return Ok(());
+        }
+        deliver(alloc, managers, record, k)?;
+    }
+    Err(Fail::new("it never ends"))
+}
+
+/// A manager's clock.
+fn tick_at(
+    alloc: Global,
+    manager: &mut Manager,
+    record: &mut Record,
+    own: Socket,
+    now: u64,
+) -> Result<(), Fail> {
+    let step = manager.handle(&Input::Tick { now })?;
+    keep(alloc, record, own, step)
+}
+
+fn tick(
+    alloc: Global,
+    managers: &mut [Manager],
+    record: &mut Record,
+    i: u8,
+    now: u64,
+) -> Result<(), Fail> {
+    match managers.get_mut(usize::from(i)) {
+        Some(manager) => tick_at(alloc, manager, record, replica(i), now),
+        None => Err(Fail::new("no such replica")),
+    }
+}
+
+fn rows(managers: &[Manager], record: &mut Record, i: u8) -> Result<(), Fail> {
+    match managers.get(usize::from(i)) {
+        Some(manager) => write_rows(record, replica(i), manager),
+        None => Err(Fail::new("no such replica")),
+    }
 }
 
 /// The rows of a manager that was just opened, and the first datagram that it hears.
@@ -188,8 +184,66 @@ fn begin(
     k: usize,
 ) -> Result<(), Fail> {
     write_rows(record, replica(i), manager)?;
-    let step = hear(manager, record, k)?;
-    keep(alloc, record, replica(i), step)
+    deliver_to(alloc, manager, record, replica(i), k)
+}
+
+/// What a replica, from 0 to 4, is as it opens on these bodies, and makes of the datagram with this number.
+fn reopen_on(
+    alloc: Global,
+    config: &Config,
+    record: &mut Record,
+    bodies: &BodyList,
+    i: u8,
+    k: usize,
+) -> Result<(), Fail> {
+    let mut manager = Manager::recover(alloc, config, i.min(4), bodies)?;
+    begin(alloc, &mut manager, record, i, k)
+}
+
+fn reopen(
+    alloc: Global,
+    config: &Config,
+    record: &mut Record,
+    i: u8,
+    k: usize,
+) -> Result<(), Fail> {
+    let bodies = journal(alloc, record.entries(), replica(i))?;
+    reopen_on(alloc, config, record, &bodies, i, k)
+}
+
+fn play_one(
+    alloc: Global,
+    config: &Config,
+    managers: &mut [Manager],
+    record: &mut Record,
+    act: Act<'_>,
+) -> Result<(), Fail> {
+    match act {
+        Act::Tick(i, now) => tick(alloc, managers, record, i, now),
+        Act::Send(from, to, text) => send(alloc, record, from, to, text),
+        Act::Deliver(first, last) => deliver_each(alloc, managers, record, first, last),
+        Act::Settle => settle(alloc, managers, record),
+        Act::Reopen(i, k) => reopen(alloc, config, record, i, k),
+        Act::Rows(i) => rows(managers, record, i),
+        Act::Told(text) => told(record, text),
+        Act::Unread => {
+            record.begin();
+            Ok(())
+        }
+    }
+}
+
+fn play_all(
+    alloc: Global,
+    config: &Config,
+    managers: &mut [Manager],
+    record: &mut Record,
+    acts: &[Act<'_>],
+) -> Result<(), Fail> {
+    for act in acts {
+        play_one(alloc, config, managers, record, *act)?;
+    }
+    Ok(())
 }
 
 /// The replica that a datagram goes to.
@@ -241,26 +295,26 @@ fn open(alloc: Global, config: &Config) -> Result<Vec<Manager>, NoMemory> {
 }
 
 /// How many datagrams were sent in all.
-fn play_with(alloc: Global, cluster: &mut Cluster, acts: &[Act<'_>]) -> Result<usize, Fail> {
+fn play_with(
+    alloc: Global,
+    config: &Config,
+    managers: &mut [Manager],
+    acts: &[Act<'_>],
+) -> Result<usize, Fail> {
     let mut record = Record::new(alloc);
-    cluster.play_all(&mut record, acts)?;
+    play_all(alloc, config, managers, &mut record, acts)?;
     Ok(record.count())
 }
 
-fn play_by(alloc: Global, config: Config, acts: &[Act<'_>]) -> Result<usize, Fail> {
-    let managers = open(alloc, &config)?;
-    let mut cluster = Cluster {
-        alloc,
-        config,
-        managers,
-    };
-    play_with(alloc, &mut cluster, acts)
+fn play_by(alloc: Global, config: &Config, acts: &[Act<'_>]) -> Result<usize, Fail> {
+    let mut managers = open(alloc, config)?;
+    play_with(alloc, config, &mut managers, acts)
 }
 
 /// Plays a run from its beginning, and answers how many datagrams were sent in it.
 pub fn play(alloc: Global, config: &str, acts: &[Act<'_>]) -> Result<usize, Fail> {
     match Config::read(alloc, config.as_bytes()) {
-        Ok(config) => play_by(alloc, config, acts),
+        Ok(config) => play_by(alloc, &config, acts),
         Err(_) => Err(Fail::new("no configuration")),
     }
 }
