@@ -77,6 +77,7 @@ freed_due = record {
 pub pushes : Pushes
 unfolding node_on_literals manager_on_literals below_on_literals
 pushes = record {
+  own_ballot = refl;
   outstanding = refl;
   last = refl;
   program = refl;

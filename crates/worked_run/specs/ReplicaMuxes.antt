@@ -152,9 +152,14 @@ pub record FreedDue : Type 0 where
   pub programmed_is_none :
       step_of two_each (of_second run.programmed (of_first muxes.unprogrammed freeing).state) ≡ no_step
 
+-- a primary whose promise is another than its ballot
+abbrev pub promised_less : Manager
+promised_less = record elected { acceptor = record elected.acceptor { promise = 4 } }
+
 -- The push goes to muxes that aren't silent, of rows that they haven't acknowledged in their known boot, behind Lead
--- and what is outstanding.
+-- and what is outstanding. A Lead has the ballot of the one who leads.
 pub record Pushes : Type 0 where
+  pub own_ballot : of (at_time 1500 promised_less) ≡ sends (to_each four_others ballots.lead_0)
   pub outstanding : of (at_time 1500 hears_ask.state)
       ≡ sends (to_each four_others ballots.lead_0 ++ to_each all_five run.accept_reserve)
   pub last : of (at_time 1500 (hears run_config reserves.state agent_at asks.ask_2).state)
