@@ -8,9 +8,11 @@ import os
 import shutil
 import struct
 import subprocess
+from pathlib import Path
 
 TUN_FILE = "/dev/net/tun"
 DEVICE = "ananta"
+SECONDS = 30            # for one call of ip
 MTU = 1500              # bytes; machines announce segments of at most 1440
 FIRST_HOPS = 64         # machine number i, from 1, starts its packets with 64 + i hops to live
 
@@ -29,23 +31,37 @@ def why_not():
         os.close(os.open(TUN_FILE, os.O_RDWR))
     except OSError as why:
         return f"it needs TUN devices: {TUN_FILE}: {why.strerror}"
-    return None
+    name = f"ananta-tried-{os.getpid()}"
+    fault = make(name)
+    take_away(name)
+    return f"it needs namespaces: {fault}" if fault else None
 
 
 def path_of(name):
-    return f"/run/netns/{name}"
+    return Path("/run/netns") / name
+
+
+def run_ip(*words):
+    """The command ip; the answer is a fault or None."""
+    ended = subprocess.run(["ip", *words], capture_output=True, text=True, timeout=SECONDS, check=False)
+    return None if ended.returncode == 0 else ended.stderr.strip() or f"ip ended with status {ended.returncode}"
 
 
 def make(name):
     """Makes a namespace; the answer is a fault or None."""
-    ended = subprocess.run(["ip", "netns", "add", name], capture_output=True, text=True, timeout=10, check=False)
-    return None if ended.returncode == 0 else ended.stderr.strip()
+    return run_ip("netns", "add", name)
+
+
+def take_away(name):
+    """Takes a namespace away, where there is one of this name."""
+    if path_of(name).exists():
+        run_ip("netns", "del", name)
 
 
 def enter(name):
     """This process goes into the namespace; sockets that it has stay where they were made."""
     libc = ctypes.CDLL(None, use_errno=True)
-    with open(path_of(name), "rb") as namespace:
+    with path_of(name).open("rb") as namespace:
         if libc.setns(namespace.fileno(), CLONE_NEWNET) != 0:
             raise OSError(ctypes.get_errno(), f"the namespace {name} can't be entered")
 
@@ -63,7 +79,8 @@ def set_up(addresses, hops):
     commands += [["address", "add", f"{address}/32", "dev", DEVICE] for address in addresses]
     commands += [["link", "set", DEVICE, "mtu", str(MTU), "up"], ["route", "add", "default", "dev", DEVICE]]
     for words in commands:
-        subprocess.run(["ip", *words], check=True, timeout=10)
+        if fault := run_ip(*words):
+            raise OSError(f"ip {' '.join(words)}: {fault}")
     if hops:
         with open("/proc/sys/net/ipv4/ip_default_ttl", "w", encoding="ascii") as file:
             file.write(str(hops))

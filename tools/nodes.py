@@ -1,4 +1,5 @@
 """The nodes of one configuration as processes of this host: started on their disks in one folder, watched, ended."""
+import contextlib
 import errno
 import json
 import os
@@ -9,6 +10,7 @@ import sys
 import time
 from pathlib import Path
 
+import namespaces
 from disks import Damaged, disk_name, leader, read_disk
 from transcript import ROLES
 
@@ -17,8 +19,10 @@ PROGRAM = ROOT / "crates" / "ananta" / "out" / "ananta"
 FOLDER = ROOT / "out" / "cluster"       # out/ is in .gitignore
 TURNS = 1_000_000_000                   # a hundred days of an idle node
 WAIT_START = 20                         # seconds until a node has its socket
-WAIT_END = 5                            # seconds until a process that was asked to end has ended
+WAIT_END = 10                           # seconds until a process that was asked to end has ended
+TRIES = 20                              # addresses of which one has its sockets free
 STEP = 0.02                             # seconds between two looks
+ENDING = (signal.SIGINT, signal.SIGTERM, signal.SIGHUP, signal.SIGALRM)     # signals that end a tool
 
 
 class Problem(Exception):
@@ -40,12 +44,34 @@ def socket_of(text):
     return address, int(port)
 
 
+def end_by_signals(handler):
+    """Has the signals that end a tool call this; those that whoever started it had it ignore stay ignored."""
+    for number in ENDING:
+        if signal.getsignal(number) is not signal.SIG_IGN:
+            signal.signal(number, handler)
+
+
+@contextlib.contextmanager
+def held_signals():
+    """What is done within is done whole: a signal that would end this process is taken at its end. What is started
+    within knows nothing of that."""
+    came = []
+    before = {number: signal.signal(number, lambda one, _: came.append(one)) for number in ENDING}
+    try:
+        yield
+    finally:
+        for number, handler in before.items():
+            signal.signal(number, handler)
+        for number in came:
+            signal.raise_signal(number)
+
+
 # ---- the configuration
 
-def default_configuration():
-    """Five replicas, two muxes and two agents with two machines each on 127.0.0.1, and one VIP with an endpoint."""
+def default_configuration(host="127.0.0.1"):
+    """Five replicas, two muxes and two agents with two machines each at this address, and one VIP with an endpoint."""
     def here(port):
-        return f"127.0.0.1:{port}"
+        return f"{host}:{port}"
 
     def machine(number):
         return {"address": f"10.1.0.{3 + number}", "attach": here(7040 + number)}
@@ -77,6 +103,20 @@ def sockets_of(config):
     """Each node's socket by its role and number."""
     lists = (config["replicas"], config["muxes"], [agent["socket"] for agent in config["agents"]])
     return {(role, i): text for role, texts in zip(ROLES, lists) for i, text in enumerate(texts)}
+
+
+def other_sockets_of(config):
+    """The sockets of the router and of the machines."""
+    return [config["router"]] + [machine["attach"] for _, machine in machines_of(config)]
+
+
+def free_configuration():
+    """The default configuration at an address 127.A.B.1 by this process's number, where all its sockets are free."""
+    for number in range(os.getpid(), os.getpid() + TRIES):
+        config = default_configuration(f"127.{1 + number % 250}.{1 + number // 250 % 250}.1")
+        if not any(bind_fault(text) for text in [*sockets_of(config).values(), *other_sockets_of(config)]):
+            return config
+    raise Problem(f"no address of {TRIES} on the loopback has all its sockets free")
 
 
 # ---- processes
@@ -172,12 +212,12 @@ class Cluster:
 
     def spawn(self, name, words, **more):
         """Starts a process in a session of its own, with its output in a file; it is kept under this name."""
-        with self.output(name).open("ab") as output:
+        with held_signals(), self.output(name).open("ab") as output:
             child = subprocess.Popen([str(word) for word in words], cwd=self.folder, stdout=output, stderr=output,
                                      start_new_session=True, **more)
-        state = self.state()
-        state["processes"][name] = {"pid": child.pid, "began": started_at(child.pid)}
-        self.keep(state)
+            state = self.state()
+            state["processes"][name] = {"pid": child.pid, "began": started_at(child.pid)}
+            self.keep(state)
         return child
 
     # -- nodes
@@ -248,14 +288,38 @@ class Cluster:
         send_signal(process, signal.SIGKILL)
         wait_until(lambda: f"{role} {index}" not in self.running(), WAIT_END)
 
+    # -- namespaces
+
+    def make_namespace(self, name):
+        if namespaces.path_of(name).exists():
+            raise Problem(f"the namespace {name} is there already: ip netns del {name}, if it's nobody's")
+        with held_signals():
+            if fault := namespaces.make(name):
+                raise Problem(f"the namespace {name} can't be made: {fault}")
+            state = self.state()
+            state["namespaces"].append(name)
+            self.keep(state)
+
+    def take_namespaces(self):
+        """Ends what is no node, and takes the namespaces away."""
+        nodes = {f"{role} {index}" for role, index in sockets_of(self.config())}
+        self.end_those(lambda name: name not in nodes)
+
+    # -- the end
+
     def down(self):
         """Ends every process that runs over the folder, and takes away its namespaces."""
-        state = self.state()
-        end([process for process in state["processes"].values() if is_running(process)])
-        for name in state["namespaces"]:
-            subprocess.run(["ip", "netns", "del", name], capture_output=True, timeout=10, check=False)
-        if self.folder.is_dir():
-            self.keep({"processes": {}, "namespaces": []})
+        self.end_those(lambda name: True)
+
+    def end_those(self, is_one):
+        with held_signals():
+            state = self.state()
+            end([process for name, process in state["processes"].items() if is_one(name)])
+            for name in state["namespaces"]:
+                namespaces.take_away(name)
+            if self.folder.is_dir():
+                left = {name: process for name, process in state["processes"].items() if not is_one(name)}
+                self.keep({"processes": left, "namespaces": []})
 
     # -- what the disks say
 
