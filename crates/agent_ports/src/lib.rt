@@ -38,6 +38,3 @@ mod remote_end;
 pub use agent_flows::Opened;
 pub use agent_spec::{Granting, Held};
 pub use ports::Ports;
-
-#[cfg(test)]
-mod tests;

@@ -1,4 +1,5 @@
-//! A host's agent that is played: what the documents tell of it, in bytes, and a long run against plain lists.
+//! A host's agent that is played: what the documents tell of it, in bytes, and a long run against plain lists; and the
+//! ports of its machines.
 //!
 //! A test is a list of steps ([`player::Play`]) with the text that the agent is to write: what it does, its notes and its
 //! datagrams.
@@ -12,6 +13,7 @@
 //! | `full_tests` | 65 packets, of which 64 wait |
 //! | `plain` | an agent of one machine as plain lists |
 //! | `events`, `event_tests` | 100,000 events in both |
+//! | `port_tests` | first free ports, a full remote end, a range that comes back |
 #![tactic(auto)]
 
 #[cfg(test)]
@@ -28,5 +30,7 @@ mod lines;
 mod plain;
 #[cfg(test)]
 mod player;
+#[cfg(test)]
+mod port_tests;
 #[cfg(test)]
 mod run_tests;
