@@ -14,7 +14,7 @@ use Rattle.journal.proofs.Moments.{both}
 use Rattle.node_spec.specs.Bodies.{entries_of}
 use Rattle.node_spec.specs.Boots.{boot_of}
 use Rattle.node_disk.specs.Judging.{boot_entry, foreign_from, index_of, strange_from, judge, judge_by, role_of}
-use Rattle.node_disk.specs.Keeping.{IsKept, KeepFails, LeavesKept, ReadsKept, length_with}
+use Rattle.node_disk.specs.Keeping.{Fits, IsKept, KeepFails, LeavesKept, ReadsKept, length_with}
 use Rattle.node_disk.specs.declared.fault.NodeFault.{NodeFault}
 use Rattle.node_disk.specs.declared.fault.NodeFault.TheVariants as fault
 use Rattle.node_core.specs.Opening.{HasBodies, OpenFails, OpeningLeaves, OpensTo, OpensWith, next_boot, next_entry, with_boot}
@@ -77,6 +77,13 @@ length_more : (bs : List (List ℕ)) (b : List ℕ) → journal_length (bs ++ b 
 length_more [] b = omega arith
 length_more (c ∷ bs) b = let more = length_more bs b in omega (arith, more)
 
+fits_with : (bound start end : ℕ) (entry : Option (List ℕ)) (body : List ℕ) → entry ≡ Some body → Fits bound start entry
+    → end ≡ length_with start entry → end ≤ bound
+fits_with bound start end entry body is room ends =
+    let fits : start + length body + 5 ≤ bound = subst (λ (e : Option (List ℕ)). Fits bound start e) is room in
+    let all : end ≡ start + length body + 5 = ends ∙ ap (length_with start) is in
+    omega (arith, fits, all)
+
 module _ (bound : ℕ) (who : NodeId) (bs : List (List ℕ)) where
   had : (told mid : Option History) → OpenedAs bound told mid bs → HasBodies bound told bs
   had None mid opened = tt
@@ -104,8 +111,8 @@ module _ (bound : ℕ) (who : NodeId) (bs : List (List ℕ)) where
       → core ≡ made cfg who (entries_of (with_boot who bs)) → entry ≡ Some (boot_entry who (next_boot bs))
       → ReadsKept bound entry mid new → LeavesKept bound entry mid new
       → LeavesOnly mid new (IsKept bound (file_in mid) entry) → start ≡ journal_length bs
-      → end ≡ length_with start entry → OpensWith bound cfg who told new made core end
-  opened_with cfg told mid new made core start end entry opened judged allowed is boot reads kept only begun ends =
+      → end ≡ length_with start entry → Fits bound start entry → OpensWith bound cfg who told new made core end
+  opened_with cfg told mid new made core start end entry opened judged allowed is boot reads kept only begun ends room =
       record {
         read = bs;
         had = had told mid opened;
@@ -119,6 +126,7 @@ module _ (bound : ℕ) (who : NodeId) (bs : List (List ℕ)) where
         length = ends ∙ ap (length_with start) boot
             ∙ ap (λ (n : ℕ). n + length (boot_entry who (next_boot bs)) + 5) begun
             ∙ sym (length_more bs (boot_entry who (next_boot bs)));
+        fits = fits_with bound start end entry (boot_entry who (next_boot bs)) boot room ends;
       }
 
 -- ---- faults

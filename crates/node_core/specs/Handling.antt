@@ -1,5 +1,7 @@
 -- What a step of a node may answer.
 use Rattle.std.specs.Prelude.{◌&&◌, ℕ, Bool, List, Option, ⊤}
+use Rattle.wire_core.specs.declared.entry.Entry.{Entry}
+use Rattle.node_spec.specs.Bodies.{Spells}
 use Rattle.node_disk.specs.Keeping.{KeepFails}
 use Rattle.node_disk.specs.declared.fault.NodeFault.{NodeFault}
 use Rattle.node_disk.specs.declared.fault.NodeFault.TheVariants as fault
@@ -17,3 +19,12 @@ HandleFails bound end before now entry (fault.Full n body) = KeepFails bound end
 HandleFails bound end before now entry (fault.Damaged second offset) = ⊥
 HandleFails bound end before now entry (fault.WrongDisk found) = ⊥
 HandleFails bound end before now entry (fault.Spent boot) = ⊥
+
+-- what found no room in the journal is the spelling of this entry
+abbrev pub SpellsFull : NodeFault → Option (List ℕ) → Option Entry → Type 0
+SpellsFull (fault.Full n body) bytes entry = Spells bytes entry
+SpellsFull fault.NoMemory bytes entry = ⊤
+SpellsFull fault.Disk bytes entry = ⊤
+SpellsFull (fault.Damaged second offset) bytes entry = ⊤
+SpellsFull (fault.WrongDisk found) bytes entry = ⊤
+SpellsFull (fault.Spent boot) bytes entry = ⊤

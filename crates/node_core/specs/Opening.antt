@@ -1,5 +1,5 @@
 -- How a node is opened.
-use Rattle.std.specs.Prelude.{◌≡◌, ◌⊎◌, ◌<◌, ℕ, ◌+◌, List, [], ◌∷◌, ◌++◌, length, Result, Ok, Err, Option, Some, None, ⊤}
+use Rattle.std.specs.Prelude.{◌≡◌, ◌⊎◌, ◌<◌, ◌≤◌, ℕ, ◌+◌, List, [], ◌∷◌, ◌++◌, length, Result, Ok, Err, Option, Some, None, ⊤}
 use Rattle.wire_core.specs.declared.node.NodeId.{NodeId}
 use Rattle.vip_config.specs.declared.parts.ConfigParts.{ConfigParts}
 use Rattle.outside_io.specs.Disk.{History, LeavesOnly}
@@ -69,7 +69,7 @@ pub record OpensTo (bound : ℕ) (told : Option History) (bs : List (List ℕ)) 
   pub leaves : LeavesBodies bound told bs
 
 -- The bodies that were read are this node's; the node is what they and the Boot entry make of it, and the file now
--- opens to them with the Boot entry.
+-- opens to them with the Boot entry, within the bound.
 pub record OpensWith {C : Type 0} (bound : ℕ) (cfg : ConfigParts) (who : NodeId) (old new : Option History)
     (opened : ConfigParts → NodeId → List Entry → C) (core : C) (end : ℕ) : Type 0 where
   pub read : List (List ℕ)
@@ -79,6 +79,7 @@ pub record OpensWith {C : Type 0} (bound : ℕ) (cfg : ConfigParts) (who : NodeI
   pub made : core ≡ opened cfg who (entries_of (with_boot who read))
   pub opens : OpensTo bound new (with_boot who read)
   pub length : end ≡ journal_length (with_boot who read)
+  pub fits : end ≤ bound
 
 -- Why it isn't opened, by the file as it was: the form or an entry of another role, another node's entry, no boot left,
 -- no room for the Boot entry; or the disk's count rose, or there was no memory.

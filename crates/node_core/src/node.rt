@@ -5,10 +5,10 @@ ghost use Rattle.journal.specs.Journal.{journal_length};
 ghost use Rattle.node_spec.specs.Bodies.{IsSpelled, Spells, entries_of};
 ghost use Rattle.node_spec.specs.Steps.{input_of};
 ghost use Rattle.node_disk.specs.Judging.{IsJudged, boot_entry, index_of, judge, role_of};
-ghost use Rattle.node_disk.specs.Keeping.{IsKept, LeavesKept, ReadsKept, length_with};
+ghost use Rattle.node_disk.specs.Keeping.{Fits, IsKept, LeavesKept, ReadsKept, length_with};
 ghost use Rattle.wire_core.specs.Entries.{IsEntry};
 ghost use Rattle.wire_core.specs.declared.entry.Entry.TheVariants.{Boot};
-ghost use Rattle.node_core.specs.Handling.{HandleFails, is_ready};
+ghost use Rattle.node_core.specs.Handling.{HandleFails, SpellsFull, is_ready};
 ghost use Rattle.node_core.specs.Opening.{OpenFails, OpeningLeaves, OpensAs, OpensWith, first_after, next_boot, second_after, with_boot};
 ghost use Rattle.node_core.specs.Sending.{Handed};
 
@@ -150,6 +150,7 @@ impl<C: Core, D: Disk> Node<C, D> {
 
     /// One step: the core's; then its entry is made durable; then each of its datagrams is handed over once, in order.
     /// After a fault nothing was handed over, and the node isn't live.
+    #[tactic(auto, using(crate::proofs::Handles::spells_full))]
     pub fn handle<L: Link>(&mut self, input: &Input<'_>, link: &mut L) -> Result<Report, NodeFault>
         requires live { is_ready self.old ≡ true }
         ensures live { OnOk result (is_ready self.new ≡ true) }
@@ -166,6 +167,8 @@ impl<C: Core, D: Disk> Node<C, D> {
             (D.history self.old.journal.first) (D.history self.new.journal.first)) }
         ensures length { OnOk result (self.new.journal.length
             ≡ length_with self.old.journal.length (C.step self.old.core (input_of input.now)).1.entry) }
+        ensures fits { OnOk result (Fits self.old.journal.bound self.old.journal.length
+            (C.step self.old.core (input_of input.now)).1.entry) }
         ensures handed { IfOk result (λ r. Handed (L.sent link.old) (L.sent link.new)
             (C.step self.old.core (input_of input.now)).1.sends r.failed) }
         ensures counts { IfOk result (λ r. r.sent
@@ -179,6 +182,8 @@ impl<C: Core, D: Disk> Node<C, D> {
         ensures fault { IfErr result (λ e. HandleFails self.old.journal.bound self.old.journal.length
             (D.faults self.old.journal.first) (D.faults self.new.journal.first)
             (C.step self.old.core (input_of input.now)).1.entry e) }
+        ensures full { IfErr result (λ e. SpellsFull e (C.step self.old.core (input_of input.now)).1.entry
+            (C.written self.old.core (input_of input.now))) }
         ensures later { D.faults self.old.journal.first ≤ D.faults self.new.journal.first }
         ensures answers { L.answers link.new ≡ L.answers link.old }
         ensures next_faults { L.next_faults link.new ≡ L.next_faults link.old }

@@ -1,5 +1,5 @@
 -- What a step of a node leaves on its disk.
-use Rattle.std.specs.Prelude.{◌≡◌, ◌<◌, ℕ, ◌+◌, List, length, Option, Some, None, ⊤}
+use Rattle.std.specs.Prelude.{◌≡◌, ◌<◌, ◌≤◌, ℕ, ◌+◌, List, length, Option, Some, None, ⊤}
 use Rattle.outside_io.specs.Disk.{History}
 use Rattle.outside_io.specs.Faults.{Rose}
 use Rattle.journal.specs.Journal.{Adds, IsAsBefore, IsBeforeOrAfter, LeavesAdded}
@@ -27,6 +27,11 @@ ReadsKept bound (Some body) old new = Adds bound body old new
 abbrev pub length_with : ℕ → Option (List ℕ) → ℕ
 length_with n None = n
 length_with n (Some body) = n + length body + 5
+
+-- the journal has room for the entry of the step
+abbrev pub Fits : (bound end : ℕ) → Option (List ℕ) → Type 0
+Fits bound end None = ⊤
+Fits bound end (Some body) = end + length body + 5 ≤ bound
 
 -- Why the entry of a step isn't kept: it would pass the bound, or the count of the disk rose.
 abbrev pub KeepFails : (bound end before now : ℕ) → Option (List ℕ) → NodeFault → Type 0

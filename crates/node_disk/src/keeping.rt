@@ -3,7 +3,7 @@ ghost use Rattle.outside_io.specs.Disk.{LeavesOnly};
 ghost use Rattle.journal.specs.Durable.{file_in};
 ghost use Rattle.journal.specs.Journal.{Adds, AppendFails, IsBeforeOrAfter, LeavesAdded};
 ghost use Rattle.node_spec.specs.Bodies.{IsSpelled};
-ghost use Rattle.node_disk.specs.Keeping.{IsKept, KeepFails, LeavesKept, ReadsKept, length_with};
+ghost use Rattle.node_disk.specs.Keeping.{Fits, IsKept, KeepFails, LeavesKept, ReadsKept, length_with};
 
 use crate::fault::NodeFault;
 use journal::{Journal, JournalFault};
@@ -20,6 +20,7 @@ fn append<D: Disk>(journal: &mut Journal<D>, body: &[u8]) -> Result<(), JournalF
     ensures kept { OnOk result (LeavesAdded journal.old.bound body.now
         (D.history journal.old.first) (D.history journal.new.first)) }
     ensures length { OnOk result (journal.new.length ≡ journal.old.length + length body.now + 5) }
+    ensures fits { OnOk result (journal.old.length + length body.now + 5 ≤ journal.old.bound) }
     ensures moments { LeavesOnly (D.history journal.old.first) (D.history journal.new.first)
         (IsBeforeOrAfter journal.old.bound (file_in (D.history journal.old.first)) body.now) }
     ensures fault { IfErr result (λ e. AppendFails journal.old.bound journal.old.length (length body.now)
@@ -42,6 +43,7 @@ pub fn keep<D: Disk>(journal: &mut Journal<D>, entry: &Option<EntryBytes>) -> Re
     ensures kept { OnOk result (LeavesKept journal.old.bound entry.now
         (D.history journal.old.first) (D.history journal.new.first)) }
     ensures length { OnOk result (journal.new.length ≡ length_with journal.old.length entry.now) }
+    ensures fits { OnOk result (Fits journal.old.bound journal.old.length entry.now) }
     ensures moments { LeavesOnly (D.history journal.old.first) (D.history journal.new.first)
         (IsKept journal.old.bound (file_in (D.history journal.old.first)) entry.now) }
     ensures fault { IfErr result (λ e. KeepFails journal.old.bound journal.old.length

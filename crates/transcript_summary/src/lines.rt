@@ -10,7 +10,8 @@ fn begins(front: &[u8], line: &[u8]) -> bool
 }
 
 /// How many lines of a text begin with these bytes.
-pub fn lines_with(front: &[u8], text: &[u8]) -> usize
+#[tactic(auto, unfolding(crate::specs::Summary::lines_with))]
+pub fn lines_with(front: &[u8], text: &[u8]) -> u64
     ensures { result ≡ lines_with front.now text.now }
 {
     let mut count = 0usize;
@@ -22,5 +23,5 @@ pub fn lines_with(front: &[u8], text: &[u8]) -> usize
         }
         left = more;
     }
-    count
+    count as u64
 }

@@ -6,4 +6,7 @@ pub mod ShownWorlds
 pub mod There
 pub mod ShownFirsts
 pub mod Standing
-pub mod Replays
+pub mod Passing
+pub mod Advances
+pub mod Counted
+pub mod ShownOverflows

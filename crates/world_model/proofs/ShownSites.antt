@@ -73,7 +73,7 @@ cut_risen x s keep = record { entries = if keep then booted x s.entries else s.e
 
 module _ {C : Type 0} (core : Lists → C) where
   -- the same list
-  abbrev sites : List Site → List (SiteState C)
+  abbrev pub sites : List Site → List (SiteState C)
   sites ss = map (shown_site core) ss
 
   pub read_shown : (ss : List Site) (i : ℕ) → site_at (sites ss) i ≡ shown_site core (get_or ss i nobody)
@@ -98,7 +98,7 @@ module _ {C : Type 0} (core : Lists → C) where
   if_true : {X : Type 0} (b : Bool) (x y : X) → b ≡ true → (if b then x else y) ≡ x
   if_true {X} b x y is = ap (λ (t : Bool). if t then x else y) is
 
-  if_same : {X : Type 0} (b : Bool) (x y : X) → x ≡ y → (if b then x else y) ≡ y
+  pub if_same : {X : Type 0} (b : Bool) (x y : X) → x ≡ y → (if b then x else y) ≡ y
   if_same {X} true x y is = is
   if_same {X} false x y is = refl
 

@@ -143,7 +143,7 @@ module _ {C : Type 0} (cfg : ConfigParts) (core : Lists → C) (step : Deciding 
 
   -- ---- a delivery
 
-  numbered : (w : World) (k : ℕ) → posted_at (see w).mail k ≡ option_map shown_sent (sent_at w k)
+  pub numbered : (w : World) (k : ℕ) → posted_at (see w).mail k ≡ option_map shown_sent (sent_at w k)
   numbered w zero = refl
   numbered w (suc k) =
       let e : suc k - 1 ≡ k = omega arith in

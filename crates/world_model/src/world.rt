@@ -1,14 +1,18 @@
-ghost use Rattle.std.specs.Prelude.{◌≡◌, ◌++◌, ◌∷◌, [], Some, true, is_some, IfOk, OnOk, IfSome};
+ghost use Rattle.std.specs.Prelude.{◌≡◌, ◌++◌, ◌∷◌, [], None, Some, true, is_some, IfErr, IfOk, OnOk, IfSome};
 ghost use Rattle.node_spec.specs.Steps.{input_of};
 ghost use Rattle.vip_config.specs.Queries.{socket_of};
-ghost use Rattle.world_mail.specs.Mails.{taken_by};
+ghost use Rattle.world_mail.specs.Mails.{least_waiting, posted_at, taken_by};
 ghost use Rattle.world_nodes.specs.Disks.{IsLent};
 ghost use Rattle.world_nodes.specs.Nodes.{node_at};
 ghost use Rattle.world_nodes.specs.Sites.{deciding};
+ghost use Rattle.world_nodes.specs.Overflows.{FullsBy};
+ghost use Rattle.world_nodes.specs.declared.fault.WorldFault.TheVariants.{NoMemory};
 ghost use Rattle.world_model.specs.Firsts.{first_world};
+ghost use Rattle.world_model.specs.Overflows.{cut_deliver_overflow_at, cut_input_overflow, cut_opening_overflow, cut_restart_overflow, deliver_overflow, during_overflow, event_overflow, input_overflow, restart_overflow, settle_overflow, single_overflow};
 ghost use Rattle.world_model.specs.Shown.{IsLentFor, IsUpFor, StandsAfter, StandsFirst};
 ghost use Rattle.world_nodes.specs.Firsts.{MayOpen};
 ghost use Rattle.world_model.specs.Sound.{IsSound, world_of};
+ghost use Rattle.world_model.specs.TableOverflows.{OverflowsAsTables};
 ghost use Rattle.world_model.specs.World.{applied, crash, cut_deliver, cut_input, cut_opening, cut_restart, deliver, during, input, onto, restart, settle, single};
 
 use crate::spreading::{home, same_node, say, say_cut, say_fallen, say_opened, spread};
@@ -42,6 +46,7 @@ impl<C: Core> World<C> {
         requires may { MayOpen C.may_open cfg }
         ensures sound { IfOk result (IsSound C.may_open) }
         ensures first { IfOk result (λ world. world_of world ≡ first_world C.opened cfg) }
+        ensures memory { IfErr result (λ e. e ≡ NoMemory) }
         ensures stands { IfOk result (λ world. StandsFirst (deciding C.step C.written) C.opened (world_of world)) }
     {
         cfg.keeps_rules();
@@ -65,6 +70,7 @@ impl<C: Core> World<C> {
         ensures sound { OnOk result (IsSound C.may_open self.new) }
         ensures does { OnOk result ((world_of self.new, lines.new.items)
             ≡ onto lines.old.items (input (deciding C.step C.written) (world_of self.old) x (input_of what.now))) }
+        ensures full { FullsBy (input_overflow (deciding C.step C.written) (world_of self.old) x (input_of what.now)) result }
     {
         let longest = longest(&self.nodes);
         let stepped = step_node(self.alloc, &mut self.nodes, x, what)?;
@@ -81,12 +87,13 @@ impl<C: Core> World<C> {
     }
 
     // The datagram with a number arrives.
-    #[tactic(auto, unfolding(crate::specs::World::deliver))]
+    #[tactic(auto, unfolding(crate::specs::World::deliver, crate::specs::Overflows::deliver_overflow))]
     fn deliver(&mut self, k: u64, lines: &mut Vec<Line>) -> Result<(), WorldFault>
         requires sound { IsSound C.may_open self.old }
         ensures sound { OnOk result (IsSound C.may_open self.new) }
         ensures does { OnOk result ((world_of self.new, lines.new.items)
             ≡ onto lines.old.items (deliver (deciding C.step C.written) (world_of self.old) k)) }
+        ensures full { FullsBy (deliver_overflow (deciding C.step C.written) (world_of self.old) k) result }
     {
         let Some(posted) = self.mail.get(k) else {
             return Ok(say(lines, Word::NotYet)?);
@@ -131,6 +138,7 @@ impl<C: Core> World<C> {
         ensures sound { OnOk result (IsSound C.may_open self.new) }
         ensures does { OnOk result ((world_of self.new, lines.new.items)
             ≡ onto lines.old.items (restart C.opened (world_of self.old) x)) }
+        ensures full { FullsBy (restart_overflow (world_of self.old) x) result }
     {
         if self.cfg.socket(&x).is_none() {
             return Ok(());
@@ -155,6 +163,8 @@ impl<C: Core> World<C> {
         ensures does { OnOk result ((world_of self.new, lines.new.items)
             ≡ onto lines.old.items (cut_input (deciding C.step C.written) (world_of self.old) self.old.mail x y
             (input_of what.now) keep)) }
+        ensures full { FullsBy (cut_input_overflow (deciding C.step C.written) (world_of self.old) x y
+            (input_of what.now) keep) result }
     {
         if !same_node(x, y) {
             return Ok(say(lines, Word::Other)?);
@@ -177,6 +187,8 @@ impl<C: Core> World<C> {
         ensures sound { OnOk result (IsSound C.may_open self.new) }
         ensures does { OnOk result ((world_of self.new, lines.new.items)
             ≡ onto lines.old.items (cut_deliver (deciding C.step C.written) (world_of self.old) x k keep)) }
+        ensures full { FullsBy (cut_deliver_overflow_at (deciding C.step C.written) (world_of self.old) x keep
+            (posted_at self.old.mail k)) result }
     {
         let Some(posted) = self.mail.get(k) else {
             return Ok(say(lines, Word::NotYet)?);
@@ -211,6 +223,7 @@ impl<C: Core> World<C> {
         ensures sound { OnOk result (IsSound C.may_open self.new) }
         ensures does { OnOk result ((world_of self.new, lines.new.items)
             ≡ onto lines.old.items (cut_opening C.opened (world_of self.old) x keep)) }
+        ensures full { FullsBy (cut_opening_overflow (world_of self.old) x keep) result }
     {
         if self.cfg.socket(&x).is_none() {
             return Ok(());
@@ -232,6 +245,7 @@ impl<C: Core> World<C> {
         ensures sound { OnOk result (IsSound C.may_open self.new) }
         ensures does { OnOk result ((world_of self.new, lines.new.items)
             ≡ onto lines.old.items (cut_restart C.opened (world_of self.old) x y keep)) }
+        ensures full { FullsBy (cut_restart_overflow (world_of self.old) x y keep) result }
     {
         if same_node(x, y) {
             self.cut_opening(x, keep, lines)
@@ -246,6 +260,7 @@ impl<C: Core> World<C> {
         ensures sound { OnOk result (IsSound C.may_open self.new) }
         ensures does { OnOk result ((world_of self.new, lines.new.items)
             ≡ onto lines.old.items (single (deciding C.step C.written) C.opened (world_of self.old) event.now)) }
+        ensures full { FullsBy (single_overflow (deciding C.step C.written) (world_of self.old) event.now) result }
     {
         match event {
             Single::Deliver { k } => self.deliver(*k, lines),
@@ -273,6 +288,7 @@ impl<C: Core> World<C> {
         ensures sound { OnOk result (IsSound C.may_open self.new) }
         ensures does { OnOk result ((world_of self.new, lines.new.items)
             ≡ onto lines.old.items (during (deciding C.step C.written) C.opened (world_of self.old) x event.now keep)) }
+        ensures full { FullsBy (during_overflow (deciding C.step C.written) (world_of self.old) x event.now keep) result }
     {
         match event {
             Single::Deliver { k } => self.cut_deliver(x, *k, keep, lines),
@@ -290,32 +306,49 @@ impl<C: Core> World<C> {
         }
     }
 
+    /// A settle of one delivery. Answers whether a datagram waited.
+    pub(crate) fn settle_one(&mut self, lines: &mut Vec<Line>) -> Result<bool, WorldFault>
+        requires sound { IsSound C.may_open self.old }
+        ensures sound { OnOk result (IsSound C.may_open self.new) }
+        ensures does { OnOk result ((world_of self.new, lines.new.items)
+            ≡ onto lines.old.items (settle (deciding C.step C.written) 1 (world_of self.old))) }
+        ensures waited { IfOk result (λ more. more ≡ is_some (least_waiting self.old.mail)) }
+        ensures full { FullsBy (settle_overflow (deciding C.step C.written) 1 (world_of self.old)) result }
+    {
+        let Some(k) = self.mail.least() else {
+            return Ok(false);
+        };
+        lines.push(Line::Delivery { k })?;
+        self.deliver(k, lines)?;
+        Ok(true)
+    }
+
     // At most so many deliveries, each of the least datagram that waits.
     fn settle(&mut self, n: u64, lines: &mut Vec<Line>) -> Result<(), WorldFault>
         requires sound { IsSound C.may_open self.old }
         ensures sound { OnOk result (IsSound C.may_open self.new) }
         ensures does { OnOk result ((world_of self.new, lines.new.items)
             ≡ onto lines.old.items (settle (deciding C.step C.written) n (world_of self.old))) }
+        ensures full { FullsBy (settle_overflow (deciding C.step C.written) n (world_of self.old)) result }
     {
         let mut left = n;
         while left > 0 {
-            let Some(k) = self.mail.least() else {
+            if !self.settle_one(lines)? {
                 return Ok(());
-            };
-            lines.push(Line::Delivery { k })?;
-            self.deliver(k, lines)?;
+            }
             left -= 1;
         }
         Ok(())
     }
 
     // An event, with its lines behind those before.
-    #[tactic(auto, unfolding(crate::specs::World::applied))]
+    #[tactic(auto, unfolding(crate::specs::World::applied, crate::specs::Overflows::event_overflow))]
     pub(crate) fn happen(&mut self, event: &Event, lines: &mut Vec<Line>) -> Result<(), WorldFault>
         requires sound { IsSound C.may_open self.old }
         ensures sound { OnOk result (IsSound C.may_open self.new) }
         ensures does { OnOk result ((world_of self.new, lines.new.items)
             ≡ onto lines.old.items (applied (deciding C.step C.written) C.opened (world_of self.old) event.now)) }
+        ensures full { FullsBy (event_overflow (deciding C.step C.written) (world_of self.old) event.now) result }
     {
         match event {
             Event::Single(single) => self.single(single, lines),
@@ -325,7 +358,16 @@ impl<C: Core> World<C> {
         }
     }
 
-    /// An event happens. Gives its lines behind the event's own.
+    // An event finds no room where the tables find none.
+    fn overflows_as_tables(&self, event: &Event)
+        ensures { OverflowsAsTables (deciding C.step C.written) C.opened (world_of self.now) event.now }
+    {
+        let _ = event;
+        self.cfg.keeps_rules();
+    }
+
+    /// An event happens. Gives its lines behind the event's own. `Full` comes exactly where the journal of the node
+    /// has no room for what the event makes it write.
     pub fn apply(&mut self, event: &Event) -> Result<LineList, WorldFault>
         requires sound { IsSound C.may_open self.old }
         ensures sound { OnOk result (IsSound C.may_open self.new) }
@@ -333,7 +375,10 @@ impl<C: Core> World<C> {
             ≡ applied (deciding C.step C.written) C.opened (world_of self.old) event.now) }
         ensures stands { IfOk result (λ lines. StandsAfter (deciding C.step C.written) C.opened (world_of self.old)
             event.now (world_of self.new) lines) }
+        ensures full { FullsBy (event_overflow (deciding C.step C.written) (world_of self.old) event.now) result }
+        ensures tables { OverflowsAsTables (deciding C.step C.written) C.opened (world_of self.old) event.now }
     {
+        self.overflows_as_tables(event);
         self.cfg.keeps_rules();
         let mut lines = Vec::new(self.alloc);
         self.happen(event, &mut lines)?;

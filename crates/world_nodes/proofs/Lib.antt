@@ -1,3 +1,4 @@
 pub mod Places
+pub mod Fulls
 pub mod Lists
 pub mod Firsts

@@ -1,5 +1,5 @@
 -- From what a node promises to what a world keeps of it.
-use Rattle.std.proofs.Common.{◌≡◌, ℕ, ◌+◌, List, [], ◌∷◌, ◌++◌, map, length, Result, Ok, Option, Some, None, refl, sym, ap, subst, ◌∙◌, append-nil}
+use Rattle.std.proofs.Common.{◌≡◌, ℕ, ◌+◌, List, [], ◌∷◌, ◌++◌, map, length, Result, Ok, Option, Some, None, refl, sym, ap, subst, ◌∙◌, append-nil, arith}
 use Rattle.std.proofs.lemmas.Grind.{flat_map-append}
 use Rattle.wire_core.specs.Entries.{IsEntry, entry_at, entry_bytes, read_entry, whole_entry}
 use Rattle.wire_core.specs.declared.act.Act.{Act}
@@ -16,11 +16,11 @@ use Rattle.outside_io.specs.Disk.{FileState, History, IsImage, Leaves, kept}
 use Rattle.outside_io.specs.Link.{Sent}
 use Rattle.disk_model.specs.Disks.{DiskState}
 use Rattle.journal.specs.File.{bodies}
-use Rattle.journal.specs.Journal.{with_body}
+use Rattle.journal.specs.Journal.{journal_length, with_body}
 use Rattle.journal.proofs.Images.{image_kept}
 use Rattle.node_spec.specs.Bodies.{Spells, entries_of, entry_in}
 use Rattle.node_disk.specs.Judging.{boot_entry, index_of, role_of}
-use Rattle.node_disk.specs.Keeping.{LeavesKept, ReadsKept}
+use Rattle.node_disk.specs.Keeping.{LeavesKept, ReadsKept, length_with}
 use Rattle.node_core.specs.Opening.{OpensWith, next_boot, with_boot}
 use Rattle.node_core.specs.Sending.{Handed, outgoing_of}
 use Rattle.node_core.specs.declared.node.Node.{Node}
@@ -28,6 +28,7 @@ use Rattle.world_spec.specs.Acts.{log_length}
 use Rattle.world_spec.specs.Nodes.{booted, listed, role_of as world_role, index_of as world_index}
 use Rattle.world_nodes.specs.declared.site.Place.TheVariants.{Up}
 use Rattle.world_nodes.specs.declared.site.Site.{Site}
+use Rattle.world_nodes.specs.Lengths.{entries_length}
 use Rattle.world_nodes.specs.Sites.{told_by}
 use Rattle.world_nodes.specs.Disks.{Holds, IsLent, IsPlace, IsUp, as_taken, bodies_in, entries_on, entry_of, or_none, place_entries, place_up, site_of}
 
@@ -38,10 +39,11 @@ opened r bs is = is ∙ ap Ok (sym (ap or_none is))
 
 -- a file that reads as these bodies, and of which each crash leaves them
 holds : (d : DiskState) (bs : List (List ℕ)) → bodies 1073741824 d.history.now.bytes ≡ Ok bs
-    → Leaves (λ c. bodies 1073741824 c ≡ Ok bs) d.history.now → Holds d
-holds d bs reads leaves = record {
+    → Leaves (λ c. bodies 1073741824 c ≡ Ok bs) d.history.now → journal_length bs ≡ entries_length (entries_of bs) → Holds d
+holds d bs reads leaves long = record {
   reads = opened (bodies 1073741824 d.history.now.bytes) bs reads;
   leaves = λ c image. leaves c image ∙ ap Ok (sym (ap or_none reads));
+  long = subst (λ (b : List (List ℕ)). journal_length b ≡ entries_length (entries_of b)) (sym (ap or_none reads)) long;
 }
 
 -- ---- a step
@@ -105,6 +107,47 @@ told_is t bytes entry learned now acts notes sends spells counts a n s =
     ∙ ap (λ (xs : List Note). record { learned = learned + log_length (listed entry); acts = t.acts; notes = xs; sends = sends }) n
     ∙ ap (λ (xs : List Outgoing). record { learned = learned + log_length (listed entry); acts = t.acts; notes = t.notes; sends = xs }) s
 
+-- ---- lengths
+
+long_none : journal_length [] ≡ entries_length (entries_of [])
+unfolding entries_length entries_of
+long_none = refl
+
+pub length_more : (es : List Entry) (e : Entry) → entries_length (es ++ e ∷ []) ≡ entries_length es + length (entry_bytes e) + 5
+unfolding entries_length
+length_more [] e = omega arith
+length_more (f ∷ es) e = let more = length_more es e in omega (arith, more)
+
+bodies_more : (bs : List (List ℕ)) (b : List ℕ) → journal_length (bs ++ b ∷ []) ≡ journal_length bs + length b + 5
+bodies_more [] b = omega arith
+bodies_more (c ∷ bs) b = let more = bodies_more bs b in omega (arith, more)
+
+-- the journal with what spells an entry, and the entries with that one
+length_with_next : (n : ℕ) (es : List Entry) (bytes : Option (List ℕ)) (entry : Option Entry) → Spells bytes entry
+    → n ≡ entries_length es → length_with n bytes ≡ entries_length (es ++ listed entry)
+length_with_next n es bytes None is so_far =
+    ap (length_with n) is.spelled ∙ so_far ∙ ap entries_length (sym (append-nil es))
+length_with_next n es bytes (Some e) is so_far =
+    ap (length_with n) is.spelled
+    ∙ ap (λ (k : ℕ). k + length (entry_bytes e) + 5) so_far
+    ∙ sym (length_more es e)
+
+bodies_with_length : (bs : List (List ℕ)) (bytes : Option (List ℕ))
+    → journal_length (bodies_with bs bytes) ≡ length_with (journal_length bs) bytes
+bodies_with_length bs None = refl
+bodies_with_length bs (Some b) = bodies_more bs b
+
+long_with : (bs : List (List ℕ)) (bytes : Option (List ℕ)) (entry : Option Entry) → Spells bytes entry
+    → journal_length bs ≡ entries_length (entries_of bs)
+    → journal_length (bodies_with bs bytes) ≡ entries_length (entries_of (bodies_with bs bytes))
+long_with bs bytes entry is so_far =
+    bodies_with_length bs bytes
+    ∙ length_with_next (journal_length bs) (entries_of bs) bytes entry is so_far
+    ∙ ap (λ (es : List Entry). entries_length (entries_of bs ++ es)) (sym (read_again bytes entry is))
+    ∙ ap entries_length (sym (entries_with bs bytes))
+
+-- ---- what a step leaves
+
 -- the entries with the new one
 pub entries_next : (d u : DiskState) (bound : ℕ) (bytes : Option (List ℕ)) (entry : Option Entry) → bound ≡ 1073741824
     → Holds d → Spells bytes entry → ReadsKept bound bytes (Some d.history) (Some u.history)
@@ -116,12 +159,22 @@ entries_next d u bound bytes entry same is spells reads =
     ∙ ap (λ (es : List Entry). entries_on d ++ es) (read_again bytes entry spells)
 
 -- and the file is on the disk as before
-pub holds_next : (d u : DiskState) (bound : ℕ) (entry : Option (List ℕ)) → bound ≡ 1073741824 → Holds d
-    → ReadsKept bound entry (Some d.history) (Some u.history) → LeavesKept bound entry (Some d.history) (Some u.history) → Holds u
-holds_next d u bound entry same is reads leaves =
+pub holds_next : (d u : DiskState) (bound : ℕ) (entry : Option (List ℕ)) (what : Option Entry) → bound ≡ 1073741824
+    → Holds d → Spells entry what → ReadsKept bound entry (Some d.history) (Some u.history)
+    → LeavesKept bound entry (Some d.history) (Some u.history) → Holds u
+holds_next d u bound entry what same is spells reads leaves =
     holds u (bodies_with (bodies_in d.history.now.bytes) entry)
     (reads_next d u is entry (subst (λ (n : ℕ). ReadsKept n entry (Some d.history) (Some u.history)) same reads))
     (leaves_next d u is entry (subst (λ (n : ℕ). LeavesKept n entry (Some d.history) (Some u.history)) same leaves))
+    (long_with (bodies_in d.history.now.bytes) entry what spells is.long)
+
+-- what a journal's length is after a step
+pub length_next : (d u : DiskState) (bound n m : ℕ) (bytes : Option (List ℕ)) (entry : Option Entry) → bound ≡ 1073741824
+    → Holds d → Spells bytes entry → ReadsKept bound bytes (Some d.history) (Some u.history)
+    → n ≡ entries_length (entries_on d) → m ≡ length_with n bytes → m ≡ entries_length (entries_on u)
+length_next d u bound n m bytes entry same is spells reads so_far next =
+    next ∙ length_with_next n (entries_on d) bytes entry spells so_far
+    ∙ ap entries_length (sym (entries_next d u bound bytes entry same is spells reads))
 
 -- ---- what a step sends
 
@@ -155,7 +208,7 @@ module _ (d e : DiskState) (c : List ℕ) (is : Holds d) (left : e.history ≡ r
       ap (bodies 1073741824) same ∙ is.leaves c image
 
   pub holds_crashed : Holds e
-  holds_crashed = holds e (bodies_in d.history.now.bytes) reads_left leaves_left
+  holds_crashed = holds e (bodies_in d.history.now.bytes) reads_left leaves_left is.long
 
   pub entries_crashed : entries_on e ≡ entries_on d
   entries_crashed = ap (λ (r : Result (List (List ℕ)) ℕ). entries_of (or_none r)) reads_left
@@ -165,6 +218,7 @@ holds_new d is =
     let bytes : d.history.now.bytes ≡ [] = ap (λ (h : History). h.now.bytes) is in
     holds d [] (ap (bodies 1073741824) bytes)
     (λ c image. ap (bodies 1073741824) (image_kept [] c (subst (λ g. IsImage g c) (ap (λ (h : History). h.now) is) image)))
+    long_none
 
 pub entries_new : (d : DiskState) → d.history ≡ record { now = kept []; past = [] } → entries_on d ≡ []
 unfolding entries_of
@@ -177,6 +231,10 @@ same_names : (x : NodeId) (n : ℕ) → Boot 1 (role_of x) (index_of x) n ≡ Bo
 same_names (Replica i) n = refl
 same_names (Mux i) n = refl
 same_names (Agent i) n = refl
+
+-- by both names it is one entry
+pub boots_are_boots : (x : NodeId) (n : ℕ) → Boot 1 (role_of x) (index_of x) n ≡ Boot 1 (world_role x) (world_index x) n
+boots_are_boots x n = same_names x n
 
 boot_again : (x : NodeId) (n : ℕ) → IsEntry (Boot 1 (role_of x) (index_of x) n)
     → read_entry (boot_entry x n) ≡ Ok (Boot 1 (role_of x) (index_of x) n)
@@ -203,8 +261,20 @@ module _ {C : Type 0} (cfg : ConfigParts) (who : NodeId) (d u : DiskState) (reco
       entries_booted who opens.read opens.allowed
       ∙ ap (λ (bs : List (List ℕ)). booted who (entries_of bs)) same_read
 
+  long_opened : journal_length (with_boot who opens.read) ≡ entries_length (entries_of (with_boot who opens.read))
+  long_opened =
+      long_with opens.read (Some (boot_entry who (next_boot opens.read)))
+      (Some (Boot 1 (role_of who) (index_of who) (next_boot opens.read)))
+      (record { allowed = opens.allowed; spelled = refl })
+      (subst (λ (b : List (List ℕ)). journal_length b ≡ entries_length (entries_of b)) (sym same_read) is.long)
+
   pub holds_opened : Holds u
-  holds_opened = holds u (with_boot who opens.read) opens.opens.reads opens.opens.leaves
+  holds_opened = holds u (with_boot who opens.read) opens.opens.reads opens.opens.leaves long_opened
+
+  pub length_opened : end ≡ entries_length (entries_on u)
+  length_opened =
+      opens.length ∙ long_opened
+      ∙ ap (λ (r : Result (List (List ℕ)) ℕ). entries_length (entries_of (or_none r))) (sym opens.opens.reads)
 
   pub entries_opened : entries_on u ≡ booted who (entries_on d)
   entries_opened = ap (λ (r : Result (List (List ℕ)) ℕ). entries_of (or_none r)) opens.opens.reads ∙ entries_read

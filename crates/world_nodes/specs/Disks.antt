@@ -8,6 +8,7 @@ use Rattle.outside_io.specs.Disk.{Leaves}
 use Rattle.outside_io.specs.Link.{Sent}
 use Rattle.disk_model.specs.Disks.{DiskState}
 use Rattle.journal.specs.File.{bodies}
+use Rattle.journal.specs.Journal.{journal_length}
 use Rattle.node_spec.specs.Bodies.{entries_of, entry_in}
 use Rattle.node_core.specs.Handling.{is_ready}
 use Rattle.node_core.specs.declared.node.Node.{Node}
@@ -15,6 +16,7 @@ use Rattle.world_nodes.specs.declared.outbox.Outbox.{Outbox}
 use Rattle.world_nodes.specs.declared.site.Place.{Place}
 use Rattle.world_nodes.specs.declared.site.Place.TheVariants.{Up, Down, Away}
 use Rattle.world_nodes.specs.declared.site.Site.{Site}
+use Rattle.world_nodes.specs.Lengths.{entries_length}
 use Rattle.world_nodes.specs.Sites.{SiteState}
 
 -- ---- disks
@@ -36,10 +38,12 @@ abbrev pub entry_of : Option (List ℕ) → List Entry
 entry_of None = []
 entry_of (Some body) = entry_in (read_entry body)
 
--- The file reads as a journal, and so does what each crash now leaves of it: with the same bodies.
+-- The file reads as a journal, and so does what each crash now leaves of it: with the same bodies, which take as many
+-- bytes as the spellings of their entries.
 pub record Holds (d : DiskState) : Type 0 where
   pub reads : bodies 1073741824 d.history.now.bytes ≡ Ok (bodies_in d.history.now.bytes)
   pub leaves : Leaves (λ c. bodies 1073741824 c ≡ Ok (bodies_in d.history.now.bytes)) d.history.now
+  pub long : journal_length (bodies_in d.history.now.bytes) ≡ entries_length (entries_on d)
 
 -- ---- nodes
 
@@ -48,6 +52,7 @@ pub record IsUp {C : Type 0} (node : Node C DiskState) : Type 0 where
   pub ready : is_ready node ≡ true
   pub bound : node.journal.bound ≡ 1073741824
   pub disk : Holds node.journal.first
+  pub length : node.journal.length ≡ entries_length (entries_on node.journal.first)
 
 -- a node that may be used, up or down
 abbrev pub IsPlace : {C : Type 0} → Place C → Type 0

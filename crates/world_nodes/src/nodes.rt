@@ -2,6 +2,7 @@
 ghost use Rattle.std.specs.Prelude.{◌≡◌, ◌<◌, length, map, is_some, fold, IfSome, OnOk, IfOk};
 ghost use Rattle.node_spec.specs.Steps.{input_of};
 ghost use Rattle.world_nodes.specs.Disks.{ArePlaces, IsLent, site_of};
+ghost use Rattle.world_nodes.specs.Overflows.{FullsBy, cut_node_overflow, cut_overflow_at, cut_restart_node_overflow, cut_restart_overflow_at, restart_node_overflow, restart_overflow_at, step_node_overflow, step_overflow_at};
 ghost use Rattle.world_nodes.specs.Sites.{deciding};
 ghost use Rattle.world_nodes.specs.Nodes.{AreNodes, crash_at, crash_node, cut_at, cut_node, cut_restart_at, cut_restart_node, longer, longest, node_at, nodes_of, restart_at, restart_node, site_at, step_at, step_node};
 
@@ -35,6 +36,8 @@ fn step_at<C: Core>(
     ensures places { OnOk result (ArePlaces sites.new) }
     ensures step { IfOk result (λ r. (map site_of sites.new, r)
         ≡ step_at (deciding C.step C.written) (map site_of sites.old) i (input_of input.now)) }
+    ensures full { FullsBy (step_overflow_at (deciding C.step C.written) (map site_of sites.old) i (input_of input.now))
+        result }
 {
     if i < sites.len() {
         step(alloc, &mut sites[i], input)
@@ -69,6 +72,7 @@ fn restart_at<C: Core>(
     ensures places { OnOk result (ArePlaces sites.new) }
     ensures restart { IfOk result (λ r. (map site_of sites.new, r)
         ≡ restart_at C.opened cfg.now who (map site_of sites.old) i) }
+    ensures full { FullsBy (restart_overflow_at who (map site_of sites.old) i) result }
 {
     if i < sites.len() {
         restart(alloc, cfg, who, &mut sites[i])
@@ -89,6 +93,8 @@ fn cut_at<C: Core>(
     ensures places { OnOk result (ArePlaces sites.new) }
     ensures cut { IfOk result (λ r. (map site_of sites.new, r)
         ≡ cut_at (deciding C.step C.written) (map site_of sites.old) i (input_of input.now) keep) }
+    ensures full { FullsBy (cut_overflow_at (deciding C.step C.written) (map site_of sites.old) i (input_of input.now)
+        keep) result }
 {
     if i < sites.len() {
         cut(alloc, &mut sites[i], input, keep)
@@ -111,6 +117,7 @@ fn cut_restart_at<C: Core>(
     ensures places { OnOk result (ArePlaces sites.new) }
     ensures cut { IfOk result (λ r. (map site_of sites.new, r)
         ≡ cut_restart_at C.opened cfg.now who (map site_of sites.old) i keep) }
+    ensures full { FullsBy (cut_restart_overflow_at who (map site_of sites.old) i keep) result }
 {
     if i < sites.len() {
         cut_restart(alloc, cfg, who, &mut sites[i], keep)
@@ -145,6 +152,8 @@ pub fn step_node<C: Core>(
     ensures nodes { OnOk result (AreNodes nodes.new) }
     ensures step { IfOk result (λ r. (nodes_of nodes.new, r)
         ≡ step_node (deciding C.step C.written) (nodes_of nodes.old) who (input_of input.now)) }
+    ensures full { FullsBy (step_node_overflow (deciding C.step C.written) (nodes_of nodes.old) who (input_of input.now))
+        result }
 {
     match who {
         NodeId::Replica(i) => step_at(alloc, &mut nodes.replicas, usize::from(i), input),
@@ -178,6 +187,7 @@ pub fn restart_node<C: Core>(
     ensures nodes { OnOk result (AreNodes nodes.new) }
     ensures restart { IfOk result (λ r. (nodes_of nodes.new, r)
         ≡ restart_node C.opened cfg.now (nodes_of nodes.old) who) }
+    ensures full { FullsBy (restart_node_overflow (nodes_of nodes.old) who) result }
 {
     match who {
         NodeId::Replica(i) => restart_at(alloc, cfg, who, &mut nodes.replicas, usize::from(i)),
@@ -198,6 +208,8 @@ pub fn cut_node<C: Core>(
     ensures nodes { OnOk result (AreNodes nodes.new) }
     ensures cut { IfOk result (λ r. (nodes_of nodes.new, r)
         ≡ cut_node (deciding C.step C.written) (nodes_of nodes.old) who (input_of input.now) keep) }
+    ensures full { FullsBy (cut_node_overflow (deciding C.step C.written) (nodes_of nodes.old) who (input_of input.now)
+        keep) result }
 {
     match who {
         NodeId::Replica(i) => cut_at(alloc, &mut nodes.replicas, usize::from(i), input, keep),
@@ -219,6 +231,7 @@ pub fn cut_restart_node<C: Core>(
     ensures nodes { OnOk result (AreNodes nodes.new) }
     ensures cut { IfOk result (λ r. (nodes_of nodes.new, r)
         ≡ cut_restart_node C.opened cfg.now (nodes_of nodes.old) who keep) }
+    ensures full { FullsBy (cut_restart_node_overflow (nodes_of nodes.old) who keep) result }
 {
     match who {
         NodeId::Replica(i) => {

@@ -1,9 +1,10 @@
 // All nodes, opened on empty disks.
-ghost use Rattle.std.specs.Prelude.{◌≡◌, ◌<◌, ◌≤◌, ℕ, map, IfOk};
+ghost use Rattle.std.specs.Prelude.{◌≡◌, ◌<◌, ◌≤◌, ℕ, map, IfErr, IfOk};
 ghost use Rattle.world_nodes.specs.Disks.{ArePlaces, site_of};
 ghost use Rattle.world_nodes.specs.Firsts.{first_nodes, first_sites, named};
 ghost use Rattle.world_nodes.specs.Nodes.{AreNodes, nodes_of};
 ghost use Rattle.world_nodes.specs.Firsts.{MayOpen};
+ghost use Rattle.world_nodes.specs.declared.fault.WorldFault.TheVariants.{NoMemory};
 
 use crate::fault::WorldFault;
 use crate::nodes::Nodes;
@@ -43,6 +44,7 @@ fn first_sites<C: Core>(
     requires may { (i : ℕ) → i < count → C.may_open cfg.now (named kind i) }
     ensures places { IfOk result (λ sites. ArePlaces sites.items) }
     ensures sites { IfOk result (λ sites. map site_of sites.items ≡ first_sites C.opened cfg.now (named kind) count) }
+    ensures memory { IfErr result (λ e. e ≡ NoMemory) }
 {
     let mut sites = Vec::new(alloc);
     for i in 0..count {
@@ -55,6 +57,7 @@ fn first_replicas<C: Core>(alloc: Global, cfg: &Config) -> Result<Vec<Site<C>>, 
     requires may { MayOpen C.may_open cfg.now }
     ensures places { IfOk result (λ sites. ArePlaces sites.items) }
     ensures sites { IfOk result (λ sites. map site_of sites.items ≡ (first_nodes C.opened cfg.now).replicas) }
+    ensures memory { IfErr result (λ e. e ≡ NoMemory) }
 {
     cfg.keeps_rules();
     first_sites(alloc, cfg, Kind::Replica, cfg.replicas().len())
@@ -64,6 +67,7 @@ fn first_muxes<C: Core>(alloc: Global, cfg: &Config) -> Result<Vec<Site<C>>, Wor
     requires may { MayOpen C.may_open cfg.now }
     ensures places { IfOk result (λ sites. ArePlaces sites.items) }
     ensures sites { IfOk result (λ sites. map site_of sites.items ≡ (first_nodes C.opened cfg.now).muxes) }
+    ensures memory { IfErr result (λ e. e ≡ NoMemory) }
 {
     cfg.keeps_rules();
     first_sites(alloc, cfg, Kind::Mux, cfg.muxes().len())
@@ -73,6 +77,7 @@ fn first_agents<C: Core>(alloc: Global, cfg: &Config) -> Result<Vec<Site<C>>, Wo
     requires may { MayOpen C.may_open cfg.now }
     ensures places { IfOk result (λ sites. ArePlaces sites.items) }
     ensures sites { IfOk result (λ sites. map site_of sites.items ≡ (first_nodes C.opened cfg.now).agents) }
+    ensures memory { IfErr result (λ e. e ≡ NoMemory) }
 {
     cfg.keeps_rules();
     first_sites(alloc, cfg, Kind::Agent, cfg.agents().len())
@@ -83,6 +88,7 @@ pub fn first_nodes<C: Core>(alloc: Global, cfg: &Config) -> Result<Nodes<C>, Wor
     requires may { MayOpen C.may_open cfg.now }
     ensures are { IfOk result AreNodes }
     ensures first { IfOk result (λ nodes. nodes_of nodes ≡ first_nodes C.opened cfg.now) }
+    ensures memory { IfErr result (λ e. e ≡ NoMemory) }
 {
     Ok(Nodes {
         replicas: first_replicas(alloc, cfg)?,

@@ -1,9 +1,11 @@
 // One node of a world, over its disks in memory.
-ghost use Rattle.std.specs.Prelude.{◌≡◌, ◌+◌, ◌++◌, Some, None, is_some, if◌then◌else◌, IfSome, OnOk, IfOk};
+ghost use Rattle.std.specs.Prelude.{◌≡◌, ◌+◌, ◌++◌, Some, None, is_some, if◌then◌else◌, IfSome, IfErr, OnOk, IfOk};
 ghost use Rattle.node_spec.specs.Steps.{input_of};
 ghost use Rattle.world_spec.specs.Acts.{log_length};
-ghost use Rattle.world_spec.specs.Nodes.{booted, listed};
+ghost use Rattle.world_spec.specs.Nodes.{boot_entry, booted, listed};
 ghost use Rattle.world_nodes.specs.Disks.{Holds, IsLent, IsPlace, IsUp, entries_on, entry_of, place_entries, place_up, site_of};
+ghost use Rattle.world_nodes.specs.Overflows.{FullsBy, overflow, site_cut_overflow, site_cut_restart_overflow, site_restart_overflow, site_step_overflow, world_fault};
+ghost use Rattle.world_nodes.specs.declared.fault.WorldFault.TheVariants.{NoMemory};
 ghost use Rattle.world_nodes.specs.Sites.{deciding, first_site, site_crash, site_cut, site_cut_restart, site_lose, site_restart, site_step, told_by, told_none};
 
 use crate::fault::WorldFault;
@@ -34,7 +36,9 @@ pub struct Site<C: Core> {
 }
 
 // A disk in memory fails for want of memory alone, and a node's own disk is its own.
-fn fault_of(fault: NodeFault) -> WorldFault {
+fn fault_of(fault: NodeFault) -> WorldFault
+    ensures { result ≡ world_fault fault }
+{
     match fault {
         NodeFault::Full { length, body } => WorldFault::Full { length, body },
         NodeFault::Disk
@@ -63,7 +67,7 @@ fn count_learned(entry: &Option<EntryBytes>) -> u64
 }
 
 // One step of a node that is up, where its log had so many values.
-#[tactic(auto, using(crate::proofs::Places::entries_next, crate::proofs::Places::holds_next))]
+#[tactic(auto, using(crate::proofs::Places::entries_next, crate::proofs::Places::holds_next, crate::proofs::Places::length_next))]
 fn step_node<C: Core>(
     alloc: Global,
     node: &mut Node<C, MemDisk>,
@@ -78,6 +82,8 @@ fn step_node<C: Core>(
     ensures told { IfOk result (λ s. s
         ≡ told_by (learned + log_length (listed (C.written node.old.core (input_of input.now))))
         (C.step node.old.core (input_of input.now)).1) }
+    ensures full { FullsBy (overflow (entries_on node.old.journal.first)
+        (C.written node.old.core (input_of input.now))) result }
 {
     let mut outbox = Outbox::new(alloc);
     let report = match node.handle(input, &mut outbox) {
@@ -108,7 +114,7 @@ fn fallen<C: Core>(node: Node<C, MemDisk>) -> Place<C>
 }
 
 // Opens a node on its disks.
-#[tactic(auto, using(crate::proofs::Places::holds_opened, crate::proofs::Places::entries_opened, crate::proofs::Places::core_opened))]
+#[tactic(auto, using(crate::proofs::Places::holds_opened, crate::proofs::Places::entries_opened, crate::proofs::Places::core_opened, crate::proofs::Places::length_opened))]
 fn open_node<C: Core>(
     alloc: Global,
     cfg: &Config,
@@ -121,6 +127,7 @@ fn open_node<C: Core>(
     ensures up { IfOk result IsUp }
     ensures core { IfOk result (λ node. node.core ≡ C.opened cfg.now who (booted who (entries_on a))) }
     ensures entries { IfOk result (λ node. entries_on node.journal.first ≡ booted who (entries_on a)) }
+    ensures full { FullsBy (overflow (entries_on a) (Some (boot_entry who (entries_on a)))) result }
 {
     match Node::open(alloc, cfg, who, a, b) {
         Ok(node) => Ok(node),
@@ -138,6 +145,7 @@ pub fn step<C: Core>(
     ensures place { OnOk result (IsPlace site.new.place) }
     ensures step { IfOk result (λ r. (site_of site.new, r)
         ≡ site_step (deciding C.step C.written) (site_of site.old) (input_of input.now)) }
+    ensures full { FullsBy (site_step_overflow (deciding C.step C.written) (site_of site.old) (input_of input.now)) result }
 {
     match &mut site.place {
         Place::Up(node) => {
@@ -196,6 +204,7 @@ fn rise<C: Core>(
     ensures place { IfOk result IsPlace }
     ensures opens { IfOk result (λ p. site_of (record { place = p; learned = learned })
         ≡ (site_restart C.opened cfg.now who (site_of (record { place = place; learned = learned }))).0) }
+    ensures full { FullsBy (site_restart_overflow who (site_of (record { place = place; learned = learned }))) result }
 {
     let _ = learned;
     match place {
@@ -216,6 +225,7 @@ pub fn restart<C: Core>(
     requires place { IsPlace site.old.place }
     ensures place { OnOk result (IsPlace site.new.place) }
     ensures restart { IfOk result (λ r. (site_of site.new, r) ≡ site_restart C.opened cfg.now who (site_of site.old)) }
+    ensures full { FullsBy (site_restart_overflow who (site_of site.old)) result }
 {
     let up = is_up(site);
     let place = mem::replace(&mut site.place, Place::Away);
@@ -259,6 +269,8 @@ pub fn cut<C: Core>(
     ensures place { OnOk result (IsPlace site.new.place) }
     ensures cut { IfOk result (λ r. (site_of site.new, r)
         ≡ site_cut (deciding C.step C.written) (site_of site.old) (input_of input.now) keep) }
+    ensures full { FullsBy (site_cut_overflow (deciding C.step C.written) (site_of site.old) (input_of input.now) keep)
+        result }
 {
     if keep {
         let stepped = step(alloc, site, input)?;
@@ -282,6 +294,7 @@ pub fn cut_restart<C: Core>(
     ensures place { OnOk result (IsPlace site.new.place) }
     ensures cut { IfOk result (λ r. (site_of site.new, r)
         ≡ site_cut_restart C.opened cfg.now who (site_of site.old) keep) }
+    ensures full { FullsBy (site_cut_restart_overflow who (site_of site.old) keep) result }
 {
     if is_up(site) {
         return Ok(false);
@@ -294,11 +307,12 @@ pub fn cut_restart<C: Core>(
 }
 
 /// A configured node, opened on empty disks.
-#[tactic(auto, using(crate::proofs::Places::holds_new, crate::proofs::Places::entries_new))]
+#[tactic(auto, using(crate::proofs::Places::holds_new, crate::proofs::Places::entries_new, crate::proofs::Fulls::first_memory))]
 pub fn first_site<C: Core>(alloc: Global, cfg: &Config, who: NodeId) -> Result<Site<C>, WorldFault>
     requires may { C.may_open cfg.now who }
     ensures place { IfOk result (λ s. IsPlace s.place) }
     ensures site { IfOk result (λ s. site_of s ≡ first_site C.opened cfg.now who) }
+    ensures memory { IfErr result (λ e. e ≡ NoMemory) }
 {
     let a = MemDisk::new(alloc)?;
     let b = MemDisk::new(alloc)?;

@@ -64,4 +64,4 @@ returns-in-Ok-keep-clause-with g c =
     (g.D.Disk.history c.in-Ok.opened.0.first) (g.D.Disk.history c.keep.new.journal.first) g.C.Core.opened
     c.in-Ok-prepare.prepared.0 c.in-Ok.opened.0.length c.keep.new.journal.length c.in-Ok-prepare.prepared.1
     (search rules) (search rules) (search rules) (search rules) (search rules) (search rules) (search rules)
-    (search rules) (search rules) (search rules)
+    (search rules) (search rules) (search rules) (search rules)
