@@ -1,5 +1,5 @@
 // Counts of small transcripts, and of lines that are no kind's.
-use crate::append_summary;
+use crate::{Counts, append_counts, append_summary};
 use std::alloc::{AllocError, Global};
 use std::test::Fail;
 
@@ -34,6 +34,24 @@ fn each_line_counts_as_its_kind(rt: HostRuntime) -> Result<(), Fail> {
         out.as_str(),
         "events 5\nsent 1\n\
         acts reserve 0 grant 0 hold 1 drop 1 free 1 freed 1 open 1 close 0 lose 1 hand 0\ndrops 1\n"
+    );
+    Ok(())
+}
+
+#[test]
+fn texts_of_whole_lines_add_up(rt: HostRuntime) -> Result<(), Fail> {
+    let first = Counts::of(
+        b"event deliver 47\nact hold 1\nsent 48 agent 0 10.7.0.1:7000 02\n".as_slice(),
+    );
+    let second = Counts::of(
+        b"event crash agent 0\nact lose agent 0\ndrop Late\nact hold 2\n".as_slice(),
+    );
+    let mut out = String::new(rt.alloc());
+    append_counts(&mut out, &first.with(&second)?)?;
+    assert_eq!(rt;
+        out.as_str(),
+        "events 2\nsent 1\n\
+        acts reserve 0 grant 0 hold 2 drop 0 free 0 freed 0 open 0 close 0 lose 1 hand 0\ndrops 1\n"
     );
     Ok(())
 }

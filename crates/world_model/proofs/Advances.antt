@@ -107,7 +107,8 @@ module _ {C : Type 0} (step : Deciding C) (recover : Opening C) (cfg : ConfigPar
       regroup after (text_of cfg (settle step m u).1) before
       (printed_line cfg (line.Event e) ++ text_of cfg (applied step recover w e).1)
       (text_of cfg (lines_from step recover (settle step m u).0 rest))
-      (text_of cfg (lines_from step recover (applied step recover w e).0 rest)) text
+      (text_of cfg (lines_from step recover (applied step recover w e).0 rest))
+      (text ∙ append_assoc before (printed_line cfg (line.Event e)) (text_of cfg (applied step recover w e).1))
       (ap (λ (v : WorldState C). text_of cfg (lines_from step recover v rest)) world)
       ∙ ap (λ (l : List ℕ). before ++ l) (sym (begun_text w n e es rest none split))
 
@@ -170,6 +171,31 @@ module _ {C : Type 0} (step : Deciding C) (recover : Opening C) (cfg : ConfigPar
       or_zero (Some k) = k
   settle_begins w n (event.Crash x) is = absurd (cc)
   settle_begins w n (event.During x e keep) is = absurd (cc)
+
+  -- of a settle the event's own line is written
+  pub settle_text : (w : WorldState C) (n : ℕ) (e : Event) (before after : List ℕ) → Some n ≡ deliveries e
+      → after ≡ before ++ printed_line cfg (line.Event e)
+      → after ++ text_of cfg (settle step n w).1
+      ≡ before ++ printed_line cfg (line.Event e) ++ text_of cfg (applied step recover w e).1
+  settle_text w n e before after is adds =
+      ap (λ (l : List ℕ). l ++ text_of cfg (settle step n w).1) adds
+      ∙ ap (λ (r : Outcome C). before ++ printed_line cfg (line.Event e) ++ text_of cfg r.1) (settle_begins w n e is)
+
+  -- of another one also its lines
+  pub other_text : (u : WorldState C) (r : Outcome C) (e : Event) (lines : List Line) (before mid after : List ℕ)
+      → (u, lines) ≡ onto [] r → mid ≡ before ++ printed_line cfg (line.Event e) → after ≡ mid ++ text_of cfg lines
+      → after ++ text_of cfg (settle step 0 u).1 ≡ before ++ printed_line cfg (line.Event e) ++ text_of cfg r.1
+  unfolding settle
+  other_text u r e lines before mid after is own adds =
+      append-nil after
+      ∙ adds
+      ∙ ap (λ (l : List ℕ). l ++ text_of cfg lines) own
+      ∙ ap (λ (o : Outcome C). before ++ printed_line cfg (line.Event e) ++ text_of cfg o.1) is
+
+  pub other_world : (u : WorldState C) (r : Outcome C) (lines : List Line) → (u, lines) ≡ onto [] r
+      → (settle step 0 u).0 ≡ r.0
+  unfolding settle
+  other_world u r lines is = ap (λ (o : Outcome C). o.0) is
 
   pub room_begins : (w : WorldState C) (n : ℕ) (e : Event) → Some n ≡ deliveries e
       → settle_overflow step n w ≡ event_overflow step w e

@@ -1,7 +1,7 @@
 -- A text that is written piece by piece, and what is answered of it.
 use Rattle.std.proofs.Common.{◌≡◌, ◌≤◌, ℕ, ◌+◌, ◌^◌, ◌-◌, List, [], ◌∷◌, ◌++◌, length, take, Option, Some, None, Result, Ok, Err, refl, sym, ap, subst, ◌∙◌, append_assoc, append-nil, arith}
 use Rattle.std.specs.Prelude.{min}
-use Rattle.std.proofs.Math.Seq.{take-append_seam, take-append-add}
+use Rattle.std.proofs.Math.Seq.{take-append_seam, take-append-add, take-length}
 use Rattle.std.proofs.lemmas.List.{take-append-le, take_min}
 use Rattle.std.specs.Io.KnownBytes.{Appends}
 use Rattle.outside_io.specs.Faults.{Rose}
@@ -29,6 +29,9 @@ passed_all a b left text is none = record {
 pub front_none : (a : Option (List ℕ)) (text : List ℕ) → Front a a text
 front_none a text = (0, append_none a)
 
+pub front_all : (a b : Option (List ℕ)) (text : List ℕ) → Appends a b text → Front a b text
+front_all a b text is = (length text, subst (Appends a b) (sym (take-length text)) is)
+
 -- all that was written is a front of the whole
 pub front_of : (a b : Option (List ℕ)) (left text : List ℕ) → Passed a b left text → Front a b text
 front_of a b left text is = (
@@ -37,13 +40,13 @@ front_of a b left text is = (
 )
 
 module _ (a b c : Option (List ℕ)) (part rest left text : List ℕ) (is : Passed a b left text) (split : left ≡ part ++ rest) where
-  abbrev whole : List ℕ
-  whole = is.written ++ (part ++ rest)
+  abbrev entire : List ℕ
+  entire = is.written ++ (part ++ rest)
 
-  all : whole ≡ text
+  all : entire ≡ text
   all = ap (λ (l : List ℕ). is.written ++ l) (sym split) ∙ is.whole
 
-  taken : (n : ℕ) → is.written ++ take n part ≡ take (length is.written + min n (length part)) whole
+  taken : (n : ℕ) → is.written ++ take n part ≡ take (length is.written + min n (length part)) entire
   taken n =
       let few : min n (length part) ≤ length part = omega arith in
       ap (λ (l : List ℕ). is.written ++ l)
@@ -55,7 +58,7 @@ module _ (a b c : Option (List ℕ)) (part rest left text : List ℕ) (is : Pass
   front_then front = (
     length is.written + min front.0 (length part),
     subst (Appends a c) (taken front.0 ∙ ap (take (length is.written + min front.0 (length part))) all)
-    (append_then a b c is.written (take front.0 part) is.appended front.1),
+        (append_then a b c is.written (take front.0 part) is.appended front.1),
   )
 
   -- a part of it is passed on, and something stays
@@ -85,10 +88,10 @@ passed_as a b left other text same is = subst (λ (l : List ℕ). Passed a b l t
 pub rose_later : (a b c : ℕ) → a ≤ b → Rose b c → Rose a c
 rose_later a b c le rose = omega (arith, le, rose)
 
-pub no_write : (T : Type 0) (before now : ℕ) (f : WorldFault) → WritesFail {T} before now (Err (replay_fault f))
+pub no_write : (T : Type 0) (before now : ℕ) (f : WorldFault) → WritesFail {T = T} before now (Err (replay_fault f))
 no_write T before now NoMemory = tt
 no_write T before now (Full n body) = tt
 
-pub full_of : (T : Type 0) (o p : Option Overflow) (f : WorldFault) → o ≡ p → IsFaultOf o f → ReplayFulls {T} p (Err (replay_fault f))
+pub full_of : (T : Type 0) (o p : Option Overflow) (f : WorldFault) → o ≡ p → IsFaultOf o f → ReplayFulls {T = T} p (Err (replay_fault f))
 full_of T o p NoMemory same is = tt
 full_of T o p (Full n body) same is = sym same ∙ is

@@ -3,7 +3,7 @@ use Rattle.std.proofs.Common.{◌≡◌, ◌<◌, ℕ, zero, suc, ◌-◌, Bool,
 use Rattle.std.specs.Prelude.{is_some}
 use Rattle.schedule_text.specs.declared.line.Line.{Line}
 use Rattle.schedule_text.specs.declared.line.Line.TheVariants as line
-use Rattle.world_mail.specs.Mails.{least_waiting}
+use Rattle.world_mail.specs.Mails.{MailState, least_waiting}
 use Rattle.world_nodes.specs.Overflows.{IsFaultOf, Overflow}
 use Rattle.world_nodes.specs.Sites.{Deciding}
 use Rattle.world_nodes.specs.declared.fault.WorldFault.{WorldFault}
@@ -48,6 +48,29 @@ module _ {C : Type 0} (step : Deciding C) where
       by (Some k) some =
           ap (λ (l : List Line). onto l (settle step n (deliver step w k).0))
           (sym (append-nil (line.Delivery k ∷ (deliver step w k).1)))
+
+  -- a settle of one delivery
+  pub one_none : (w : WorldState C) (m : MailState) (before : List Line) → m ≡ w.mail → None ≡ least_waiting w.mail
+      → (record w { mail = m }, before) ≡ onto before (settle step 1 w)
+  one_none w m before same none =
+      ap left same
+      ∙ ap (λ (l : List Line). (w, l)) (sym (append-nil before))
+      ∙ sym (ap (onto before) (settle_none 1 w (sym none)))
+    where
+      left : MailState → Outcome C
+      left m = (record w { mail = m }, before)
+
+  pub one_some : (w u : WorldState C) (k : ℕ) (before after : List Line) → Some k ≡ least_waiting w.mail
+      → (u, after) ≡ onto (before ++ line.Delivery k ∷ []) (deliver step w k) → (u, after) ≡ onto before (settle step 1 w)
+  unfolding settle
+  one_some w u k before after some is =
+      is
+      ∙ ap (λ (l : List Line). ((deliver step w k).0, l)) (regroup before (line.Delivery k) (deliver step w k).1)
+      ∙ ap (λ (o : Option ℕ). onto before (settle_by step w (settle step 0) o)) some
+    where
+      regroup : (before : List Line) (l : Line) (mid : List Line) → (before ++ l ∷ []) ++ mid ≡ before ++ ((l ∷ mid) ++ [])
+      regroup before l mid =
+          append_assoc before (l ∷ []) mid ∙ ap (λ (m : List Line). before ++ m) (sym (append-nil (l ∷ mid)))
 
   -- what the others do
   pub settle_rest : (w u : WorldState C) (lines : List Line) (n : ℕ) → 0 < n → (u, lines) ≡ onto [] (settle step 1 w)
@@ -109,6 +132,16 @@ module _ {C : Type 0} (step : Deciding C) where
   unfolding settle_overflow
   no_overflow zero w none = refl
   no_overflow (suc n) w none = ap (settle_overflow_by step w (settle_overflow step n)) none
+
+  pub one_room_none : (w : WorldState C) → None ≡ least_waiting w.mail → settle_overflow step 1 w ≡ None
+  one_room_none w none = no_overflow 1 w (sym none)
+
+  pub one_room : (w : WorldState C) (k : ℕ) → Some k ≡ least_waiting w.mail
+      → deliver_overflow step w k ≡ settle_overflow step 1 w
+  unfolding settle_overflow
+  one_room w k some =
+      first_alone (deliver_overflow step w k)
+      ∙ ap (λ (o : Option ℕ). settle_overflow_by step w (settle_overflow step 0) o) some
 
   overflow_first : (n : ℕ) (w : WorldState C)
       → settle_overflow step (suc n) w

@@ -52,11 +52,10 @@ fn deliver_next<C: Core>(
     let mut lines = Vec::new(alloc);
     let more = world.settle_one(&mut lines)?;
     write_lines(alloc, cfg, text, lines.as_slice())?;
-    if more {
-        Ok(left - 1)
-    } else {
-        Ok(0)
+    if !more {
+        return Ok(0);
     }
+    Ok(left - 1)
 }
 
 // How many deliveries an event is a settle of.
@@ -135,14 +134,17 @@ pub fn advance<C: Core>(
     ensures full { IfErr result (IsFaultOf (overflow_left (deciding C.step C.written) C.opened
         (world_of world.old) progress.old.left (drop progress.old.at events.now))) }
 {
-    if progress.left > 0 {
+    let begun = progress.left > 0;
+    if begun {
         progress.left = deliver_next(alloc, cfg, world, progress.left, text)?;
         return Ok(true);
     }
-    if progress.at >= events.len() {
+    let over = progress.at >= events.len();
+    if over {
         return Ok(false);
     }
-    progress.left = event_next(alloc, cfg, world, &events[progress.at], text)?;
+    let event = &events[progress.at];
+    progress.left = event_next(alloc, cfg, world, event, text)?;
     progress.at += 1;
     Ok(true)
 }

@@ -126,6 +126,7 @@ impl<C: Core> World<C> {
         ensures sound { OnOk result (IsSound C.may_open self.new) }
         ensures does { OnOk result ((world_of self.new, lines.new.items)
             ≡ onto lines.old.items (crash (world_of self.old) x)) }
+        ensures full { FullsBy None result }
     {
         let fell = crash_node(&mut self.nodes, x);
         say_fallen(lines, x, Word::Down, fell)?;

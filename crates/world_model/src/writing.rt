@@ -36,7 +36,8 @@ fn pass_long<K: Sink>(out: &mut K, text: &mut String) -> Result<(), Failed>
     if text.len() < ENOUGH {
         return Ok(());
     }
-    pass_on(out, text)
+    pass_on(out, text)?;
+    Ok(())
 }
 
 // All that is left of a run, through a text that is empty at first.
@@ -83,6 +84,7 @@ pub(crate) fn follows_tables<C: Core>(cfg: &Config, events: &[Event])
 /// Writes what a schedule prints under a configuration, each of whose nodes may be opened: of each event its own line
 /// and what it does to a world of real nodes, from empty disks on. The lines are passed on as they come. After a fault
 /// a front of them is written. Memory grows with what was sent alone.
+#[tactic(auto, using(crate::proofs::Passing::front_none))]
 pub fn replay<C: Core, K: Sink>(
     alloc: Global,
     cfg: &Config,

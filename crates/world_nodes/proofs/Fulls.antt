@@ -19,7 +19,8 @@ use Rattle.node_disk.specs.declared.fault.NodeFault.{NodeFault}
 use Rattle.node_disk.specs.declared.fault.NodeFault.TheVariants as fault
 use Rattle.node_core.specs.Handling.{HandleFails, SpellsFull}
 use Rattle.node_core.specs.Opening.{OpenFails, OpensWith, next_boot, with_boot}
-use Rattle.world_spec.specs.Nodes.{boot_entry as boot_of_tables}
+use Rattle.node_spec.specs.Boots.{boot_of}
+use Rattle.world_spec.specs.Nodes.{boot_entry as boot_of_tables, index_of as world_index, role_of as world_role}
 use Rattle.world_nodes.specs.Disks.{Holds, bodies_in, entries_on, or_none}
 use Rattle.world_nodes.specs.Lengths.{entries_length}
 use Rattle.world_nodes.specs.Overflows.{IsFaultOf, Overflow, overflow, overflow_at, world_fault}
@@ -46,7 +47,7 @@ has_room n b le = by (nat_lt 1073741824 (n + b + 5)) refl
 
 -- ---- a step
 
-spelled_some : Option (List ℕ) → List ℕ
+abbrev spelled_some : Option (List ℕ) → List ℕ
 spelled_some None = []
 spelled_some (Some b) = b
 
@@ -139,7 +140,7 @@ module _ (who : NodeId) (d : DiskState) (is : Holds d) where
 -- ---- an empty disk
 
 boot_is_short : (who : NodeId) (entries : List Entry) → length (entry_bytes (boot_of_tables who entries)) ≤ 13
-boot_is_short who entries = short _ _ _
+boot_is_short who entries = short (world_role who) (world_index who) (boot_of entries + 1)
   where
     short : (role index boot : ℕ) → length (entry_bytes (Boot 1 role index boot)) ≤ 13
     short role index boot =

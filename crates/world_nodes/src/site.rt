@@ -67,7 +67,7 @@ fn count_learned(entry: &Option<EntryBytes>) -> u64
 }
 
 // One step of a node that is up, where its log had so many values.
-#[tactic(auto, using(crate::proofs::Places::entries_next, crate::proofs::Places::holds_next, crate::proofs::Places::length_next))]
+#[tactic(auto, using(crate::proofs::Places::entries_next))]
 fn step_node<C: Core>(
     alloc: Global,
     node: &mut Node<C, MemDisk>,
