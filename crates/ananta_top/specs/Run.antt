@@ -110,13 +110,13 @@ HasRoomBy false text = IsOkAnd (scheduled text) HasRoom
 abbrev pub HasRoomInJournals : List ℕ → Type 0
 HasRoomInJournals text = HasRoomBy (is_plain text) text
 
--- A schedule fills a journal of its own nodes; a node's journal is its host's. No other job has one.
+-- A schedule fills a journal of its own nodes. Of a node its run says it, and no other job has a journal.
 abbrev pub FillsFor : Option Job → List ℕ → Type 0
-FillsFor None text = ⊥
+FillsFor None text = Unit {0}
 FillsFor (Some Replay) text = FillsAJournal text
 FillsFor (Some Summary) text = FillsAJournal text
-FillsFor (Some Check) text = ⊥
-FillsFor (Some (Generate number count)) text = ⊥
+FillsFor (Some Check) text = Unit {0}
+FillsFor (Some (Generate number count)) text = Unit {0}
 FillsFor (Some (Node role index turns)) text = Unit {0}
 
 abbrev pub HasRoomFor : Option Job → List ℕ → Type 0

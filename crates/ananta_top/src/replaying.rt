@@ -1,10 +1,10 @@
 // Schedules, written line by line or counted.
-ghost use Rattle.std.specs.Prelude.{◌≡◌, ◌≤◌, ℕ, IfErr, IfOk, IsErr, IsOkAnd, OnOk, length, string_bytes, take, ⊥};
+ghost use Rattle.std.specs.Prelude.{◌≡◌, ◌≤◌, ℕ, IfErr, IfOk, IsErr, IsOkAnd, OnOk, length, string_bytes, take};
 ghost use Rattle.std.specs.Io.KnownBytes.{Appends};
 ghost use Rattle.outside_io.specs.Faults.{Rose};
 ghost use Rattle.transcript_summary.specs.Summary.{counts_of, four_lines};
 ghost use Rattle.ananta_top.specs.Answers.{answer, is_plain, printed};
-ghost use Rattle.ananta_top.specs.Run.{HasRoomInJournals, IsRefusal, IsSafeSchedule, OfSchedule, Replays, Stops, WritesNothing, ending_by};
+ghost use Rattle.ananta_top.specs.Run.{AfterReading, DamageIn, FillsAJournal, FirstIs, Fronts, HasRoomInJournals, IsRefusal, IsSafeSchedule, LeavesFront, OfSchedule, Printed, PrintedFront, Replays, Stops, WritesNothing, ending_by};
 ghost use Rattle.ananta_top.specs.declared.words.Job.TheVariants.{Replay, Summary};
 
 use crate::ending::Ending;
@@ -142,9 +142,8 @@ fn ending_by(fault: ScheduleFault) -> Ending
     }
 }
 
-/// Writes what `replay` answers: what a schedule prints, a plain one or one of nodes. The lines of nodes are written as
-/// they come.
-pub fn replay<K: Sink>(alloc: Global, text: &[u8], out: &mut K) -> Ending
+// The lines of a schedule are written as they come.
+fn write_replay<K: Sink>(alloc: Global, text: &[u8], out: &mut K) -> Ending
     requires { length text.now ≤ INPUT_LIMIT }
     ensures replays { Replays (K.written out.old) (K.written out.new) (K.faults out.old) (K.faults out.new) text.now
         (answer Replay text.now) result }
@@ -169,8 +168,8 @@ fn counts_text(alloc: Global, counts: &Counts) -> Result<String, Refusal>
     }
 }
 
-/// Writes what `replay --summary` answers: how many lines of each kind a schedule prints.
-pub fn summarize<K: Sink>(alloc: Global, text: &[u8], out: &mut K) -> Ending
+// The counts of a schedule's lines are written.
+fn write_summary<K: Sink>(alloc: Global, text: &[u8], out: &mut K) -> Ending
     requires { length text.now ≤ INPUT_LIMIT }
     ensures replays { Replays (K.written out.old) (K.written out.new) (K.faults out.old) (K.faults out.new) text.now
         (answer Summary text.now) result }
@@ -181,4 +180,45 @@ pub fn summarize<K: Sink>(alloc: Global, text: &[u8], out: &mut K) -> Ending
         Ok(counts) => write_answer(counts_text(alloc, &counts), out),
         Err(fault) => ending_by(fault),
     }
+}
+
+/// Writes what `replay` answers: what a schedule prints, a plain one or one of nodes. The lines of nodes are written as
+/// they come.
+pub fn replay<K: Sink>(alloc: Global, text: &[u8], out: &mut K) -> Ending
+    requires { length text.now ≤ INPUT_LIMIT }
+    ensures done { result ≡ Ending.Done → Printed (answer Replay) (K.written out.old) (K.written out.new) text.now }
+    ensures room { result ≡ Ending.Done → HasRoomInJournals text.now }
+    ensures safe { result ≡ Ending.Done → IsSafeSchedule text.now }
+    ensures first { FirstIs result (answer Replay text.now) }
+    ensures damage { DamageIn result (answer Replay text.now) }
+    ensures write { result ≡ Ending.WriteFault → Rose (K.faults out.old) (K.faults out.new) }
+    ensures front { result ≡ Ending.WriteFault
+        → PrintedFront (answer Replay) (K.written out.old) (K.written out.new) text.now }
+    ensures stopped { LeavesFront result → Fronts (K.written out.old) (K.written out.new) (answer Replay text.now) }
+    ensures full { result ≡ Ending.JournalFull → FillsAJournal text.now }
+    ensures kept { WritesNothing result → out.new ≡ out.old }
+    ensures causes { AfterReading result }
+    ensures kind { OfSchedule result }
+{
+    write_replay(alloc, text, out)
+}
+
+/// Writes what `replay --summary` answers: how many lines of each kind a schedule prints.
+pub fn summarize<K: Sink>(alloc: Global, text: &[u8], out: &mut K) -> Ending
+    requires { length text.now ≤ INPUT_LIMIT }
+    ensures done { result ≡ Ending.Done → Printed (answer Summary) (K.written out.old) (K.written out.new) text.now }
+    ensures room { result ≡ Ending.Done → HasRoomInJournals text.now }
+    ensures safe { result ≡ Ending.Done → IsSafeSchedule text.now }
+    ensures first { FirstIs result (answer Summary text.now) }
+    ensures damage { DamageIn result (answer Summary text.now) }
+    ensures write { result ≡ Ending.WriteFault → Rose (K.faults out.old) (K.faults out.new) }
+    ensures front { result ≡ Ending.WriteFault
+        → PrintedFront (answer Summary) (K.written out.old) (K.written out.new) text.now }
+    ensures stopped { LeavesFront result → Fronts (K.written out.old) (K.written out.new) (answer Summary text.now) }
+    ensures full { result ≡ Ending.JournalFull → FillsAJournal text.now }
+    ensures kept { IsRefusal result → out.new ≡ out.old }
+    ensures causes { AfterReading result }
+    ensures kind { OfSchedule result }
+{
+    write_summary(alloc, text, out)
 }

@@ -1,5 +1,5 @@
 -- What decides in a node follows the table of its role, so what a world of such nodes writes is the transcript.
-use Rattle.std.proofs.Common.{◌≡◌, ℕ, List, Option, Some, None, IsSome, refl, sym, subst, ◌∙◌}
+use Rattle.std.proofs.Common.{◌≡◌, ℕ, List, Option, Some, None, IsSome, Result, Err, refl, sym, subst, ◌∙◌}
 use Rattle.std.specs.Io.KnownBytes.{Appends}
 use Rattle.wire_core.specs.declared.entry.Entry.{Entry}
 use Rattle.wire_core.specs.declared.node.NodeId.{NodeId}
@@ -13,10 +13,14 @@ use Rattle.world_spec.specs.Nodes.{Lists, OfManager, OfMux, OfAgent, node_turn, 
 use Rattle.world_spec.specs.Transcript.{transcript_text}
 use Rattle.transcript_summary.specs.Summary.{counts_of}
 use Rattle.transcript_summary.specs.declared.kinds.Counts.{Counts}
-use Rattle.world_model.specs.Runs.{Front}
+use Rattle.world_model.specs.Runs.{Front, ReplayFulls}
 use Rattle.world_model.specs.Shown.{IsTranscript}
 use Rattle.world_model.specs.TableOverflows.{IsRunOverflow}
-use Rattle.world_nodes.specs.Overflows.{Overflow}
+use Rattle.world_model.specs.declared.fault.ReplayFault.{ReplayFault}
+use Rattle.world_model.specs.declared.fault.ReplayFault.TheVariants as replay
+use Rattle.world_nodes.specs.Overflows.{FullsBy, Overflow}
+use Rattle.world_nodes.specs.declared.fault.WorldFault.{WorldFault}
+use Rattle.world_nodes.specs.declared.fault.WorldFault.TheVariants as world
 use Rattle.world_nodes.specs.Sites.{deciding}
 use Rattle.node_schedule.specs.Answers.{HasRoom, Overflows}
 use Rattle.node_schedule.specs.Roles.{RolesFollow, role_of}
@@ -66,4 +70,23 @@ finds_room cfg es o follows is none = sym (is (role_of cfg) (follows cfg)) ∙ n
 pub finds_none : (cfg : ConfigParts) (es : List Event) (o : Option Overflow) (x : Overflow) → RolesFollow
     → IsRunOverflow (deciding role.step role.written) role.opened cfg es o → o ≡ Some x → Overflows (cfg, es)
 finds_none cfg es o x follows is some =
-    subst (λ (p : Option Overflow). IsSome p) (sym some ∙ is (role_of cfg) (follows cfg)) tt
+    subst (λ (p : Option Overflow). IsSome p) (sym some ∙ is (role_of cfg) (follows cfg)) refl
+
+-- the numbers of a full journal are told in a fault
+pub overflowed : {T : Type 0} (cfg : ConfigParts) (es : List Event) (o : Option Overflow) (r : Result T ReplayFault)
+    (e : ReplayFault) (length body : ℕ) → RolesFollow
+    → IsRunOverflow (deciding role.step role.written) role.opened cfg es o → ReplayFulls o r → r ≡ Err e
+    → e ≡ replay.Full length body → Overflows (cfg, es)
+overflowed {T} cfg es o r e length body follows is full err numbers =
+    finds_none cfg es o (record { length = length; body = body }) follows is
+    (subst (λ (f : ReplayFault). ReplayFulls {T = T} o (Err f)) numbers
+    (subst (λ (x : Result T ReplayFault). ReplayFulls o x) err full))
+
+pub miscounted : {T : Type 0} (cfg : ConfigParts) (es : List Event) (o : Option Overflow) (r : Result T WorldFault)
+    (e : WorldFault) (length body : ℕ) → RolesFollow
+    → IsRunOverflow (deciding role.step role.written) role.opened cfg es o → FullsBy o r → r ≡ Err e
+    → e ≡ world.Full length body → Overflows (cfg, es)
+miscounted {T} cfg es o r e length body follows is full err numbers =
+    finds_none cfg es o (record { length = length; body = body }) follows is
+    (subst (λ (f : WorldFault). FullsBy {T = T} o (Err f)) numbers
+    (subst (λ (x : Result T WorldFault). FullsBy o x) err full))

@@ -1,5 +1,5 @@
 -- What the code writes and answers, by what a text says.
-use Rattle.std.specs.Prelude.{◌≡◌, ℕ, List, take, Option, None, Result, Ok, Err, IfOk, IsOk, IsOkAnd, IsErr, IsSome, String, string_bytes, ⊤, ⊥}
+use Rattle.std.specs.Prelude.{◌≡◌, ℕ, List, take, Option, None, Result, Ok, Err, IfOk, IsOk, IsOkAnd, IsErr, IsSome, String, string_bytes, ⊤}
 use Rattle.std.specs.Io.KnownBytes.{Appends}
 use Rattle.config_text.specs.Faults.{json, field}
 use Rattle.outside_io.specs.Faults.{Rose}
