@@ -5,7 +5,7 @@ use Rattle.std.specs.Io.KnownBytes.{Appends}
 use Rattle.wire_core.specs.declared.node.NodeId.{NodeId}
 use Rattle.outside_io.specs.Faults.{Rose}
 use Rattle.ananta_top.specs.Answers.{Task, write, serve, NoAnswer, answer_of}
-use Rattle.ananta_top.specs.Run.{AfterReading, DamageIn, FillsAJournal, FirstIs, Fronts, HasRoomInJournals, IsSafeSchedule, LeavesFront, Replays, Writes, WritesFront}
+use Rattle.ananta_top.specs.Run.{AfterReading, DamageIn, FillsAJournal, FirstIs, Fronts, HasRoomInJournals, IsSafeSchedule, LeavesFront, Replays, StopsShort, Writes, WritesFront}
 use Rattle.ananta_top.specs.declared.ending.Ending.{Ending}
 use Rattle.ananta_top.specs.declared.ending.Ending.TheVariants as ending
 use Rattle.ananta_top.specs.declared.refusal.Refusal.TheVariants as refusal
@@ -19,12 +19,12 @@ done before after faults faults_now text a e r is =
 pub room : (before after : Option (List ℕ)) (faults faults_now : ℕ) (text : List ℕ) (a : Result Task NoAnswer)
     (e : Ending) → Replays before after faults faults_now text a e → e ≡ ending.Done → HasRoomInJournals text
 room before after faults faults_now text a e r is =
-    (subst (λ (x : Ending). Replays before after faults faults_now text a x) is r).1.0
+    (subst (λ (x : Ending). Replays before after faults faults_now text a x) is r).1
 
 pub safe : (before after : Option (List ℕ)) (faults faults_now : ℕ) (text : List ℕ) (a : Result Task NoAnswer)
     (e : Ending) → Replays before after faults faults_now text a e → e ≡ ending.Done → IsSafeSchedule text
 safe before after faults faults_now text a e r is =
-    (subst (λ (x : Ending). Replays before after faults faults_now text a x) is r).1.1
+    (subst (λ (x : Ending). Replays before after faults faults_now text a x) is r).2
 
 pub fault : (before after : Option (List ℕ)) (faults faults_now : ℕ) (text : List ℕ) (a : Result Task NoAnswer)
     (e : Ending) → Replays before after faults faults_now text a e → e ≡ ending.WriteFault → Rose faults faults_now
@@ -118,3 +118,7 @@ pub fronts_given : (o : Option Job) (before text : Option (List ℕ))
     → IfSome text (λ t. Fronts before before (answer_of o t))
 fronts_given o before None = tt
 fronts_given o before (Some t) = front_none before (answer_of o t)
+
+-- the job that the words name
+pub short_for : (o p : Option Job) (e : Ending) → o ≡ p → StopsShort o e → StopsShort p e
+short_for o p e is short = subst (λ (x : Option Job). StopsShort x e) is short

@@ -1,9 +1,10 @@
 -- What a schedule prints, a plain one or one of nodes, and how its lines were written or counted.
-use Rattle.std.proofs.Common.{◌≡◌, ℕ, Bool, true, false, List, [], Option, None, Some, Result, Ok, Err, IfOk, IsOk, IsErr, IsOkAnd, IsSome, String, string_bytes, take, refl, sym, subst, ap}
+use Rattle.std.proofs.Common.{◌≡◌, ℕ, Bool, true, false, List, [], Option, None, Some, Result, Ok, Err, IfOk, IfErr, OnOk, IsOk, IsErr, IsOkAnd, String, string_bytes, take, refl, sym, subst, ap}
 use Rattle.std.specs.Io.KnownBytes.{Appends}
 use Rattle.std.specs.declared.alloc.Global.{Global}
 use Rattle.config_text.specs.Faults.{json, field}
-use Rattle.node_schedule.specs.Answers.{Fails, HasRoom, Overflows, WritesFront}
+use Rattle.outside_io.specs.Faults.{Rose}
+use Rattle.node_schedule.specs.Answers.{CountsLines, Fails, HasRoom, Overflows, Writes, WritesFront}
 use Rattle.node_schedule.specs.Schedule.{NoSchedule, Scheduled, scheduled, transcribed}
 use Rattle.node_schedule.specs.Schedule as nodes
 use Rattle.node_schedule.specs.declared.fault.ScheduleFault.{ScheduleFault}
@@ -46,7 +47,7 @@ lines_of s = of_nodes (transcribed s)
 has_room : (s : Result Scheduled NoSchedule) (P : Scheduled → Type 0) → IsOkAnd s (λ x. HasRoom x × P x)
     → IsOkAnd s HasRoom
 has_room (Ok x) P both = both.0
-has_room (Err why) P both = cc
+has_room (Err why) P both = absurd both
 
 pub room_of : (text : List ℕ) (P : Scheduled → Type 0) → is_plain text ≡ false
     → IsOkAnd (scheduled text) (λ x. HasRoom x × P x) → HasRoomInJournals text
@@ -55,7 +56,7 @@ room_of text P plain both = nodes_room text plain (has_room (scheduled text) P b
 run_written : (s : Result Scheduled NoSchedule) (P : List ℕ → Type 0)
     → IsOkAnd s (λ x. HasRoom x × P (transcript_text x.0 x.1)) → IsOkAnd (lines_of s) P
 run_written (Ok x) P both = both.1
-run_written (Err why) P both = cc
+run_written (Err why) P both = absurd both
 
 pub written_of : (text : List ℕ) (P : List ℕ → Type 0) → is_plain text ≡ false
     → IsOkAnd (scheduled text) (λ x. HasRoom x × P (transcript_text x.0 x.1)) → IsOkAnd (printed text) P
@@ -85,7 +86,7 @@ no_schedule text plain none =
 
 is_ok : (s : Result Scheduled NoSchedule) (P : Scheduled → Type 0) → IsOkAnd s P → IsOk (lines_of s)
 is_ok (Ok x) P both = refl
-is_ok (Err why) P both = cc
+is_ok (Err why) P both = absurd both
 
 run_ok : (s : Result Scheduled NoSchedule) → IsOk s → IsOk (lines_of s)
 run_ok (Ok x) ok = refl
@@ -101,3 +102,56 @@ stops text failed schedule.Full plain why =
 stops text failed schedule.Write plain why =
     (rw (nodes_print text plain) (run_ok (scheduled text) why.0), why.1)
 stops text failed schedule.NoMemory plain why = tt
+
+-- ---- clause by clause
+
+pub written_on : {T : Type 0} (text : List ℕ) (before after : Option (List ℕ)) (faults faults_now : ℕ)
+    (r : Result T ScheduleFault) → is_plain text ≡ false
+    → Writes before after faults faults_now r (scheduled text)
+    → OnOk r (IsOkAnd (printed text) (λ lines. Appends before after lines))
+written_on text before after faults faults_now (Ok x) plain wrote =
+    written_of text (λ (lines : List ℕ). Appends before after lines) plain wrote
+written_on text before after faults faults_now (Err f) plain wrote = tt
+
+pub room_on : {T : Type 0} (text : List ℕ) (before after : Option (List ℕ)) (faults faults_now : ℕ)
+    (r : Result T ScheduleFault) → is_plain text ≡ false
+    → Writes before after faults faults_now r (scheduled text) → OnOk r (HasRoomInJournals text)
+room_on text before after faults faults_now (Ok x) plain wrote =
+    room_of text (λ (s : Scheduled). Appends before after (transcript_text s.0 s.1)) plain wrote
+room_on text before after faults faults_now (Err f) plain wrote = tt
+
+pub stops_on : {T : Type 0} (text : List ℕ) (before after : Option (List ℕ)) (faults faults_now : ℕ)
+    (r : Result T ScheduleFault) → is_plain text ≡ false
+    → Writes before after faults faults_now r (scheduled text)
+    → IfErr r (λ f. Stops f (Rose faults faults_now) text (printed text))
+stops_on text before after faults faults_now (Ok x) plain wrote = tt
+stops_on text before after faults faults_now (Err f) plain wrote =
+    stops text (Rose faults faults_now) f plain wrote
+
+pub front_on : (text : List ℕ) (before after : Option (List ℕ)) → is_plain text ≡ false
+    → WritesFront before after (scheduled text)
+    → IfOk (printed text) (λ lines. (n : ℕ) × Appends before after (take n lines))
+front_on text before after plain front =
+    front_of text (λ (lines : List ℕ). (n : ℕ) × Appends before after (take n lines)) plain front
+
+pub safe_on : {T : Type 0} (text : List ℕ) (r : Result T ScheduleFault) → is_plain text ≡ false
+    → OnOk r (IsSafeBy false text) → OnOk r (IsSafeSchedule text)
+safe_on text (Ok x) plain safe = nodes_safe text plain safe
+safe_on text (Err f) plain safe = tt
+
+pub counts_on : (text : List ℕ) (r : Result Counts ScheduleFault) → is_plain text ≡ false
+    → CountsLines r (scheduled text)
+    → IfOk r (λ counts. IsOkAnd (printed text) (λ lines. counts ≡ counts_of lines))
+counts_on text (Ok c) plain counted = written_of text (λ (lines : List ℕ). c ≡ counts_of lines) plain counted
+counts_on text (Err f) plain counted = tt
+
+pub counted_room : (text : List ℕ) (r : Result Counts ScheduleFault) → is_plain text ≡ false
+    → CountsLines r (scheduled text) → OnOk r (HasRoomInJournals text)
+counted_room text (Ok c) plain counted =
+    room_of text (λ (s : Scheduled). c ≡ counts_of (transcript_text s.0 s.1)) plain counted
+counted_room text (Err f) plain counted = tt
+
+pub counting_stops : (text : List ℕ) (r : Result Counts ScheduleFault) → is_plain text ≡ false
+    → CountsLines r (scheduled text) → IfErr r (λ f. Stops f ⊥ text (printed text))
+counting_stops text (Ok c) plain counted = tt
+counting_stops text (Err f) plain counted = stops text ⊥ f plain counted

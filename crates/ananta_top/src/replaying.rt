@@ -1,5 +1,5 @@
 // Schedules, written line by line or counted.
-ghost use Rattle.std.specs.Prelude.{◌≡◌, ◌≤◌, ℕ, IfErr, IfOk, IsErr, IsOkAnd, OnOk, length, string_bytes, take};
+ghost use Rattle.std.specs.Prelude.{◌≡◌, ◌≤◌, ℕ, false, true, IfErr, IfOk, IsErr, IsOkAnd, OnOk, length, string_bytes, take};
 ghost use Rattle.std.specs.Io.KnownBytes.{Appends};
 ghost use Rattle.outside_io.specs.Faults.{Rose};
 ghost use Rattle.transcript_summary.specs.Summary.{counts_of, four_lines};
@@ -28,6 +28,7 @@ fn is_plain(text: &[u8]) -> bool
 
 // ---- plain schedules, whose lines are made first
 
+#[tactic(auto, using(crate::proofs::Schedules::plain_prints, crate::proofs::Schedules::plain_room, crate::proofs::Schedules::plain_safe))]
 fn write_plain<K: Sink>(alloc: Global, text: &[u8], out: &mut K) -> Result<(), ScheduleFault>
     requires within { length text.now ≤ INPUT_LIMIT }
     requires plain { is_plain text.now ≡ true }
@@ -50,6 +51,7 @@ fn write_plain<K: Sink>(alloc: Global, text: &[u8], out: &mut K) -> Result<(), S
     }
 }
 
+#[tactic(auto, using(crate::proofs::Schedules::plain_prints, crate::proofs::Schedules::plain_room, crate::proofs::Schedules::plain_safe))]
 fn count_plain(alloc: Global, text: &[u8]) -> Result<Counts, ScheduleFault>
     requires within { length text.now ≤ INPUT_LIMIT }
     requires plain { is_plain text.now ≡ true }
@@ -158,7 +160,7 @@ fn write_replay<K: Sink>(alloc: Global, text: &[u8], out: &mut K) -> Ending
 
 /// The four lines of some counts.
 fn counts_text(alloc: Global, counts: &Counts) -> Result<String, Refusal>
-    ensures { IfOk result (λ text. string_bytes text ≡ four_lines counts.now) }
+    ensures text { IfOk result (λ text. string_bytes text ≡ four_lines counts.now) }
     ensures no_memory { IfErr result (λ e. e ≡ Refusal.NoMemory) }
 {
     let mut text = String::new(alloc);
