@@ -8,12 +8,11 @@ use Rattle.outside_io.specs.Faults.{Rose}
 use Rattle.outside_io.specs.Host.{HostCall}
 use Rattle.ananta_top.specs.Answers.{Task, write, serve, NoAnswer, answer_of, bad_config, bad_line, no_form}
 use Rattle.ananta_top.specs.Node.{NodeRan, damaged_line}
-use Rattle.ananta_top.specs.Run.{AfterReading, DamageIn, DamageIsOf, EndsBy, FirstIs, HasStatusBy, IfServed, IsAfterReading, IsAnswerable, IsBeforeHost, IsDoneBy, IsOfSchedule, IsOfText, IsTooLong, LeavesHost, NeedsNoHost, NodeEnds, OfSchedule, OfText, ReplayedAs, StaysAway, TellsDamage, TellsLine, ending_line, first_fault, no_answer_line, status_of}
+use Rattle.ananta_top.specs.Run.{AfterReading, CutsLines, DamageIn, DamageIsOf, EndsBy, EndsShort, FirstIs, HasNoAnswer, HasStatusBy, IfServed, IsAfterReading, IsAnswerable, IsBeforeHost, IsDoneBy, IsOfSchedule, IsOfText, IsRefusal, IsTooLong, KeepsOut, LeavesFront, LeavesHost, NeedsNoHost, NodeEnds, OfSchedule, OfText, Refuses, RefusesAll, StaysAway, StopsShort, TellsDamage, TellsLine, WritesNothing, ending_line, first_fault, no_answer_line, status_of}
 use Rattle.ananta_top.specs.declared.ending.Ending.{Ending}
 use Rattle.ananta_top.specs.declared.ending.Ending.TheVariants as ending
 use Rattle.ananta_top.specs.declared.ending.Status.TheVariants as status
 use Rattle.ananta_top.specs.declared.refusal.Refusal.TheVariants as refusal
-use Rattle.ananta_top.specs.declared.refusal.ReplayFault.{ReplayFault}
 use Rattle.ananta_top.specs.declared.words.Job.{Job}
 use Rattle.ananta_top.specs.declared.words.Job.TheVariants.{Replay, Summary, Check, Generate, Node}
 use Rattle.ananta_top.proofs.Ran.{damage_told}
@@ -89,11 +88,73 @@ stays_away (Some Check) e k = tt
 stays_away (Some (Generate number count)) e k = tt
 stays_away (Some (Node role index turns)) e k = leaves e k
 
--- what was replayed and written is safe
-pub done_safe : {X : Type 0} (e : Ending) (r : Result (String Global) ReplayFault) → ReplayedAs e r → OnOk r X
-    → e ≡ ending.Done → X
-done_safe e (Ok text) how safe is = safe
-done_safe e (Err fault) how safe is = absurd (subst (λ (w : Ending). ReplayedAs w (Err fault)) is how)
+-- ---- which statuses leave a front, and which nothing
+
+cuts : (e : Ending) → CutsLines (status_of e) → LeavesFront e
+cuts ending.Done k = absurd k
+cuts ending.Usage k = absurd k
+cuts ending.TooLong k = absurd k
+cuts ending.ReadFault k = absurd k
+cuts ending.WriteFault k = absurd k
+cuts (ending.Refused (refusal.Line n)) k = absurd k
+cuts (ending.Refused refusal.Json) k = absurd k
+cuts (ending.Refused (refusal.Field path)) k = absurd k
+cuts (ending.Refused refusal.NoMemory) k = tt
+cuts ending.LinkFault k = absurd k
+cuts ending.DiskFault k = absurd k
+cuts (ending.Damaged who second offset) k = absurd k
+cuts ending.JournalFull k = tt
+cuts ending.WrongDisk k = absurd k
+cuts ending.Spent k = absurd k
+
+-- A status that may leave a front is of an ending that may.
+pub stops_short : (o : Option Job) (e : Ending) → EndsShort o (status_of e) → StopsShort o e
+stops_short None e k = absurd k
+stops_short (Some Replay) e k = cuts e k
+stops_short (Some Summary) e k = absurd k
+stops_short (Some Check) e k = absurd k
+stops_short (Some (Generate number count)) e k = absurd k
+stops_short (Some (Node role index turns)) e k = absurd k
+
+refuses : (e : Ending) → Refuses (status_of e) → IsRefusal e
+refuses ending.Done k = absurd k
+refuses ending.Usage k = tt
+refuses ending.TooLong k = tt
+refuses ending.ReadFault k = tt
+refuses ending.WriteFault k = absurd k
+refuses (ending.Refused r) k = tt
+refuses ending.LinkFault k = tt
+refuses ending.DiskFault k = tt
+refuses (ending.Damaged who second offset) k = tt
+refuses ending.JournalFull k = tt
+refuses ending.WrongDisk k = tt
+refuses ending.Spent k = tt
+
+refuses_all : (e : Ending) → RefusesAll (status_of e) → WritesNothing e
+refuses_all ending.Done k = absurd k
+refuses_all ending.Usage k = tt
+refuses_all ending.TooLong k = tt
+refuses_all ending.ReadFault k = tt
+refuses_all ending.WriteFault k = absurd k
+refuses_all (ending.Refused (refusal.Line n)) k = tt
+refuses_all (ending.Refused refusal.Json) k = tt
+refuses_all (ending.Refused (refusal.Field path)) k = tt
+refuses_all (ending.Refused refusal.NoMemory) k = absurd k
+refuses_all ending.LinkFault k = tt
+refuses_all ending.DiskFault k = tt
+refuses_all (ending.Damaged who second offset) k = tt
+refuses_all ending.JournalFull k = absurd k
+refuses_all ending.WrongDisk k = tt
+refuses_all ending.Spent k = tt
+
+-- A status that writes nothing is of an ending that doesn't.
+pub keeps_out : (o : Option Job) (e : Ending) → HasNoAnswer o (status_of e) → KeepsOut o e
+keeps_out None e k = refuses e k
+keeps_out (Some Replay) e k = refuses_all e k
+keeps_out (Some Summary) e k = refuses e k
+keeps_out (Some Check) e k = refuses e k
+keeps_out (Some (Generate number count)) e k = refuses e k
+keeps_out (Some (Node role index turns)) e k = refuses e k
 
 -- ---- each answer is given
 

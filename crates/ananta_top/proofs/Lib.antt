@@ -1,2 +1,4 @@
 pub mod Ran
 pub mod Ends
+pub mod Replayed
+pub mod Schedules

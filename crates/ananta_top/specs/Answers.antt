@@ -19,8 +19,6 @@ use Rattle.wire_core.specs.declared.node.NodeId.{NodeId}
 use Rattle.wire_core.specs.declared.node.NodeId.TheVariants as id
 use Rattle.ananta_top.specs.declared.refusal.Refusal.{Refusal}
 use Rattle.ananta_top.specs.declared.refusal.Refusal.TheVariants as refusal
-use Rattle.ananta_top.specs.declared.refusal.ReplayFault.{ReplayFault}
-use Rattle.ananta_top.specs.declared.refusal.ReplayFault.TheVariants as replay
 use Rattle.ananta_top.specs.Words.{job_of}
 use Rattle.ananta_top.specs.declared.words.Job.{Job}
 use Rattle.ananta_top.specs.declared.role.NodeRole.{NodeRole}
@@ -148,16 +146,6 @@ RefusedBy (refusal.Line n) answer = answer ≡ Err (bad_line n)
 RefusedBy refusal.Json answer = answer ≡ Err (bad_config json)
 RefusedBy (refusal.Field path) answer = answer ≡ Err (bad_config (field (string_bytes path)))
 RefusedBy refusal.NoMemory answer = Unit {0}
-
--- A schedule has no transcript for what its text is; only one that has one fills a journal.
-abbrev pub ReplayFails : ReplayFault → Result Task NoAnswer → Type 0
-ReplayFails (replay.Refused r) answer = RefusedBy r answer
-ReplayFails replay.Full answer = IsOk answer
-
--- what was replayed is what is to be written
-abbrev pub Replays : Result (String Global) ReplayFault → Result Task NoAnswer → Type 0
-Replays (Ok text) answer = answer ≡ Ok (write (string_bytes text))
-Replays (Err fault) answer = ReplayFails fault answer
 
 -- what was answered is what is to be written
 abbrev pub Answers : Result (String Global) Refusal → Result Task NoAnswer → Type 0

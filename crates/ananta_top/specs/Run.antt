@@ -4,7 +4,11 @@ use Rattle.std.specs.Fmt.{decimal}
 use Rattle.std.specs.declared.alloc.Global.{Global}
 use Rattle.std.specs.Io.KnownBytes.{Appends, IsAtEnd}
 use Rattle.config_text.specs.Faults.{Fault, json, field}
+use Rattle.node_schedule.specs.Answers.{HasRoom, Overflows}
 use Rattle.node_schedule.specs.Safety.{IsSafeText}
+use Rattle.node_schedule.specs.Schedule.{scheduled}
+use Rattle.node_schedule.specs.declared.fault.ScheduleFault.{ScheduleFault}
+use Rattle.node_schedule.specs.declared.fault.ScheduleFault.TheVariants as schedule
 use Rattle.plain_schedule.specs.Safety.{IsAlwaysSafe}
 use Rattle.wire_core.specs.declared.node.NodeId.{NodeId}
 use Rattle.vip_config.specs.declared.parts.ConfigParts.{ConfigParts}
@@ -15,8 +19,6 @@ use Rattle.ananta_top.specs.Answers.{is_plain, Task, write, serve, NoAnswer, no_
 use Rattle.ananta_top.specs.Node.{NodeRan, damaged_line, turns_line}
 use Rattle.ananta_top.specs.declared.refusal.Refusal.{Refusal}
 use Rattle.ananta_top.specs.declared.refusal.Refusal.TheVariants as refusal
-use Rattle.ananta_top.specs.declared.refusal.ReplayFault.{ReplayFault}
-use Rattle.ananta_top.specs.declared.refusal.ReplayFault.TheVariants as replay
 use Rattle.ananta_top.specs.declared.words.Job.{Job}
 use Rattle.ananta_top.specs.declared.words.Job.TheVariants.{Replay, Summary, Check, Generate, Node}
 use Rattle.ananta_top.specs.declared.ending.Ending.{Ending}
@@ -55,6 +57,12 @@ Printed answered before after text = IsOkAnd (answered text) (Writes before afte
 abbrev pub PrintedFront : Answered → Option (List ℕ) → Option (List ℕ) → List ℕ → Type 0
 PrintedFront answered before after text = IsOkAnd (answered text) (WritesFront before after)
 
+-- of a text that is to be written a front was added; where there is no answer, nothing
+abbrev pub Fronts : Option (List ℕ) → Option (List ℕ) → Result Task NoAnswer → Type 0
+Fronts before after (Ok (write lines)) = (n : ℕ) × Appends before after (take n lines)
+Fronts before after (Ok (serve cfg who turns)) = Unit {0}
+Fronts before after (Err why) = after ≡ before
+
 -- the text is a schedule with a bad line
 abbrev pub IsBadSchedule : Result Task NoAnswer → Type 0
 IsBadSchedule (Ok lines) = ⊥
@@ -85,6 +93,39 @@ IsSafeFor (Some Summary) text = IsSafeSchedule text
 IsSafeFor (Some Check) text = Unit {0}
 IsSafeFor (Some (Generate number count)) text = Unit {0}
 IsSafeFor (Some (Node role index turns)) text = Unit {0}
+
+-- some entry of the run of a schedule finds no room in its node's journal; a plain one has no journals
+abbrev pub FillsBy : (plain : Bool) → List ℕ → Type 0
+FillsBy true text = ⊥
+FillsBy false text = IsOkAnd (scheduled text) Overflows
+
+abbrev pub FillsAJournal : List ℕ → Type 0
+FillsAJournal text = FillsBy (is_plain text) text
+
+-- each entry of the run of a schedule finds room
+abbrev pub HasRoomBy : (plain : Bool) → List ℕ → Type 0
+HasRoomBy true text = Unit {0}
+HasRoomBy false text = IsOkAnd (scheduled text) HasRoom
+
+abbrev pub HasRoomInJournals : List ℕ → Type 0
+HasRoomInJournals text = HasRoomBy (is_plain text) text
+
+-- A schedule fills a journal of its own nodes. Of a node its run says it, and no other job has a journal.
+abbrev pub FillsFor : Option Job → List ℕ → Type 0
+FillsFor None text = Unit {0}
+FillsFor (Some Replay) text = FillsAJournal text
+FillsFor (Some Summary) text = FillsAJournal text
+FillsFor (Some Check) text = Unit {0}
+FillsFor (Some (Generate number count)) text = Unit {0}
+FillsFor (Some (Node role index turns)) text = Unit {0}
+
+abbrev pub HasRoomFor : Option Job → List ℕ → Type 0
+HasRoomFor None text = Unit {0}
+HasRoomFor (Some Replay) text = HasRoomInJournals text
+HasRoomFor (Some Summary) text = HasRoomInJournals text
+HasRoomFor (Some Check) text = Unit {0}
+HasRoomFor (Some (Generate number count)) text = Unit {0}
+HasRoomFor (Some (Node role index turns)) text = Unit {0}
 
 -- the input of a job that reads it was read to its end
 abbrev pub IsAtEndFor : Option Job → Option (List ℕ) → Type 0
@@ -219,13 +260,34 @@ Says before after answer (ending.Refused r) = RefusedBy r answer
 Says before after answer (ending.Damaged who second offset) = DamageIsOf who answer
 Says before after answer other = Unit {0}
 
--- what was replayed was no text, for this reason
-abbrev pub ReplayedAs : Ending → Result (String Global) ReplayFault → Type 0
-ReplayedAs (ending.Refused r) answer = answer ≡ Err (replay.Refused r)
-ReplayedAs ending.JournalFull answer = answer ≡ Err replay.Full
-ReplayedAs ending.Done answer = IsOk answer
-ReplayedAs ending.WriteFault answer = IsOk answer
-ReplayedAs other answer = ⊥
+-- Why the lines of a schedule weren't written or counted to their end. Want of memory may always come.
+abbrev pub Stops : ScheduleFault → (failed : Type 0) → List ℕ → Result (List ℕ) NoAnswer → Type 0
+Stops schedule.Json failed text printed = printed ≡ Err (bad_config json)
+Stops (schedule.Field path) failed text printed = printed ≡ Err (bad_config (field (string_bytes path)))
+Stops (schedule.Line n) failed text printed = printed ≡ Err (bad_line n)
+Stops schedule.Full failed text printed = IsOk printed × FillsAJournal text
+Stops schedule.Write failed text printed = IsOk printed × failed
+Stops schedule.NoMemory failed text printed = Unit {0}
+
+-- how a run ends for this reason
+abbrev pub ending_by : ScheduleFault → Ending
+ending_by schedule.Json = ending.Refused refusal.Json
+ending_by (schedule.Field path) = ending.Refused (refusal.Field path)
+ending_by (schedule.Line n) = ending.Refused (refusal.Line n)
+ending_by schedule.Full = ending.JournalFull
+ending_by schedule.Write = ending.WriteFault
+ending_by schedule.NoMemory = ending.Refused refusal.NoMemory
+
+-- What the ending of a schedule says: all that is to be written was added, or a front of it.
+abbrev pub Replays : (before after : Option (List ℕ)) → (faults faults_now : ℕ) → List ℕ → Result Task NoAnswer → Ending
+    → Type 0
+Replays before after faults faults_now text answer ending.Done =
+    IsOkAnd answer (Writes before after) × HasRoomInJournals text × IsSafeSchedule text
+Replays before after faults faults_now text answer ending.WriteFault =
+    IsOkAnd answer (WritesFront before after) × Rose faults faults_now
+Replays before after faults faults_now text answer ending.JournalFull = FillsAJournal text × Fronts before after answer
+Replays before after faults faults_now text answer (ending.Refused r) = RefusedBy r answer × Fronts before after answer
+Replays before after faults faults_now text answer other = ⊥
 
 -- endings that write nothing
 abbrev pub IsRefusal : Ending → Type 0
@@ -233,10 +295,42 @@ IsRefusal ending.Done = ⊥
 IsRefusal ending.WriteFault = ⊥
 IsRefusal other = Unit {0}
 
+-- endings of `replay` that may leave a front of the lines
+abbrev pub LeavesFront : Ending → Type 0
+LeavesFront (ending.Refused refusal.NoMemory) = Unit {0}
+LeavesFront ending.JournalFull = Unit {0}
+LeavesFront other = ⊥
+
+-- endings of a job that may leave a front, beside a fault of the sink
+abbrev pub StopsShort : Option Job → Ending → Type 0
+StopsShort None e = ⊥
+StopsShort (Some Replay) e = LeavesFront e
+StopsShort (Some Summary) e = ⊥
+StopsShort (Some Check) e = ⊥
+StopsShort (Some (Generate number count)) e = ⊥
+StopsShort (Some (Node role index turns)) e = ⊥
+
 -- refusals for what the text is
 abbrev pub JudgesBy : Refusal → Type 0
 JudgesBy refusal.NoMemory = ⊥
 JudgesBy other = Unit {0}
+
+-- endings of `replay` that write nothing
+abbrev pub WritesNothing : Ending → Type 0
+WritesNothing ending.Done = ⊥
+WritesNothing ending.WriteFault = ⊥
+WritesNothing ending.JournalFull = ⊥
+WritesNothing (ending.Refused r) = JudgesBy r
+WritesNothing other = Unit {0}
+
+-- endings of a job that write nothing
+abbrev pub KeepsOut : Option Job → Ending → Type 0
+KeepsOut None e = IsRefusal e
+KeepsOut (Some Replay) e = WritesNothing e
+KeepsOut (Some Summary) e = IsRefusal e
+KeepsOut (Some Check) e = IsRefusal e
+KeepsOut (Some (Generate number count)) e = IsRefusal e
+KeepsOut (Some (Node role index turns)) e = IsRefusal e
 
 -- endings that come before a host is asked for anything
 abbrev pub LeavesHost : Ending → Type 0
@@ -301,11 +395,42 @@ JudgesInput BadSchedule = Unit {0}
 JudgesInput WriteFault = Unit {0}
 JudgesInput other = ⊥
 
--- statuses that write nothing
+-- statuses of jobs other than `replay` that write nothing
 abbrev pub Refuses : Status → Type 0
 Refuses Done = ⊥
 Refuses WriteFault = ⊥
 Refuses other = Unit {0}
+
+-- statuses of `replay` that write nothing
+abbrev pub RefusesAll : Status → Type 0
+RefusesAll Done = ⊥
+RefusesAll WriteFault = ⊥
+RefusesAll JournalFull = ⊥
+RefusesAll NoMemory = ⊥
+RefusesAll other = Unit {0}
+
+-- statuses of a job that write nothing
+abbrev pub HasNoAnswer : Option Job → Status → Type 0
+HasNoAnswer None status = Refuses status
+HasNoAnswer (Some Replay) status = RefusesAll status
+HasNoAnswer (Some Summary) status = Refuses status
+HasNoAnswer (Some Check) status = Refuses status
+HasNoAnswer (Some (Generate number count)) status = Refuses status
+HasNoAnswer (Some (Node role index turns)) status = Refuses status
+
+-- statuses of `replay` that may leave a front of the lines, beside a fault of the sink
+abbrev pub CutsLines : Status → Type 0
+CutsLines NoMemory = Unit {0}
+CutsLines JournalFull = Unit {0}
+CutsLines other = ⊥
+
+abbrev pub EndsShort : Option Job → Status → Type 0
+EndsShort None status = ⊥
+EndsShort (Some Replay) status = CutsLines status
+EndsShort (Some Summary) status = ⊥
+EndsShort (Some Check) status = ⊥
+EndsShort (Some (Generate number count)) status = ⊥
+EndsShort (Some (Node role index turns)) status = ⊥
 
 -- the job is done, unless memory ran out
 abbrev pub IsDone : Status → Type 0

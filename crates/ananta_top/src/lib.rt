@@ -5,7 +5,8 @@
 //! |---|---|
 //! | `streams` | reads a source to its end |
 //! | `words`, `role` | which job the words name, and of which node |
-//! | `answers`, `check` | what a job answers to a text |
+//! | `replaying` | a schedule is written or counted, line by line |
+//! | `check`, `generate`, `writing` | what a job answers to a text, and that it is written |
 //! | `node` | a node is served, and told in one line |
 //! | `refusal`, `ending` | why a text has no answer, how a run ends, what is told about it |
 //! | `top` | the whole: words, input, job, answer |
@@ -13,15 +14,17 @@
 //! The caller makes the real objects: everything outside is behind the traits of `outside_io`.
 #![tactic(auto)]
 
-mod answers;
 mod check;
 mod ending;
+mod generate;
 mod node;
 mod refusal;
+mod replaying;
 mod role;
 mod streams;
 mod top;
 mod words;
+mod writing;
 
 pub use ending::Status;
 pub use top::run;

@@ -9,12 +9,3 @@ pub enum Refusal {
     Field(String),
     NoMemory,
 }
-
-/// Why a schedule isn't replayed.
-#[derive(Debug, Drop)]
-pub enum ReplayFault {
-    /// Its text has no answer, or there is no memory.
-    Refused(Refusal),
-    /// An entry would pass the bound of a journal of one of its nodes.
-    Full,
-}

@@ -4,54 +4,19 @@ ghost use Rattle.outside_io.specs.Faults.{Rose};
 ghost use Rattle.ananta_top.specs.Answers.{answer, answered};
 ghost use Rattle.ananta_top.specs.Node.{NodeRan};
 ghost use Rattle.ananta_top.specs.Words.{IsWithinLines, given, job_of, reads_input, text_for};
-ghost use Rattle.ananta_top.specs.Run.{AfterReading, DamageIn, EndsBy, FirstIs, HasStatusBy, IfServed, IsAfterReading, IsAnswerable, IsAtEndFor, IsBadConfig, IsBadSchedule, IsDoneBy, IsRefusal, IsSafeFor, IsTooLong, IsWithin, JudgesInput, JudgesText, NeedsNoHost, NodeEnds, Printed, PrintedFront, RefusedAs, Refuses, ReplayedAs, StaysAway, TellsLine};
+ghost use Rattle.ananta_top.specs.Run.{AfterReading, DamageIn, EndsBy, EndsShort, FillsFor, FirstIs, Fronts, HasNoAnswer, HasRoomFor, HasStatusBy, IfServed, IsAfterReading, IsAnswerable, IsAtEndFor, IsBadConfig, IsBadSchedule, IsDoneBy, IsSafeFor, IsTooLong, IsWithin, JudgesInput, JudgesText, KeepsOut, NeedsNoHost, NodeEnds, Printed, PrintedFront, StaysAway, StopsShort, TellsLine};
 
-use crate::answers::{generate, replay, summarize};
 use crate::check::check;
 use crate::ending::{Ending, Status, report, status_of};
+use crate::generate::generate;
 use crate::node::serve_node;
-use crate::refusal::{Refusal, ReplayFault};
+use crate::refusal::Refusal;
+use crate::replaying::{replay, summarize};
 use crate::streams::{INPUT_LIMIT, InputFault, read_all};
 use crate::words::{Job, job_of};
-use outside_io::{Clock, Failed, Host, Sink, Source};
-use sink_text::write_all;
+use crate::writing::write_answer;
+use outside_io::{Clock, Host, Sink, Source};
 use std::alloc::Global;
-
-/// Writes what a text answered.
-fn write_answer<K: Sink>(answer: Result<String, Refusal>, out: &mut K) -> Ending
-    ensures done { result ≡ Ending.Done
-        → IsOkAnd answer (λ text. Appends (K.written out.old) (K.written out.new) (string_bytes text)) }
-    ensures write { result ≡ Ending.WriteFault → Rose (K.faults out.old) (K.faults out.new) }
-    ensures front { result ≡ Ending.WriteFault → IsOkAnd answer
-        (λ text. (n : ℕ) × Appends (K.written out.old) (K.written out.new) (take n (string_bytes text))) }
-    ensures refused { RefusedAs result answer }
-    ensures kept { IsRefusal result → out.new ≡ out.old }
-{
-    match answer {
-        Err(refusal) => Ending::Refused(refusal),
-        Ok(lines) => match write_all(out, lines.as_bytes()) {
-            Ok(()) => Ending::Done,
-            Err(Failed) => Ending::WriteFault,
-        },
-    }
-}
-
-/// Writes what a schedule printed.
-fn write_replay<K: Sink>(replayed: Result<String, ReplayFault>, out: &mut K) -> Ending
-    ensures done { result ≡ Ending.Done
-        → IsOkAnd replayed (λ text. Appends (K.written out.old) (K.written out.new) (string_bytes text)) }
-    ensures write { result ≡ Ending.WriteFault → Rose (K.faults out.old) (K.faults out.new) }
-    ensures front { result ≡ Ending.WriteFault → IsOkAnd replayed
-        (λ text. (n : ℕ) × Appends (K.written out.old) (K.written out.new) (take n (string_bytes text))) }
-    ensures refused { ReplayedAs result replayed }
-    ensures kept { IsRefusal result → out.new ≡ out.old }
-{
-    match replayed {
-        Ok(lines) => write_answer(Ok(lines), out),
-        Err(ReplayFault::Refused(refusal)) => Ending::Refused(refusal),
-        Err(ReplayFault::Full) => Ending::JournalFull,
-    }
-}
 
 /// Does a job on a text that was read.
 fn respond<K: Sink, H: Host, C: Clock>(
@@ -73,17 +38,21 @@ fn respond<K: Sink, H: Host, C: Clock>(
     ensures write { result ≡ Ending.WriteFault → Rose (K.faults out.old) (K.faults out.new) }
     ensures front { result ≡ Ending.WriteFault
         → PrintedFront (answer job) (K.written out.old) (K.written out.new) text.now }
+    ensures stopped { StopsShort (Some job) result
+        → Fronts (K.written out.old) (K.written out.new) (answer job text.now) }
+    ensures full { result ≡ Ending.JournalFull → FillsFor (Some job) text.now }
+    ensures room { result ≡ Ending.Done → HasRoomFor (Some job) text.now }
     ensures link { result ≡ Ending.LinkFault → Rose (H.link_faults host.old) (H.link_faults host.new) }
     ensures disk { result ≡ Ending.DiskFault → Rose (H.disk_faults host.old) (H.disk_faults host.new) }
-    ensures kept { IsRefusal result → out.new ≡ out.old }
+    ensures kept { KeepsOut (Some job) result → out.new ≡ out.old }
     ensures causes { AfterReading result }
     ensures kind { EndsBy (Some job) result }
     ensures host { StaysAway (Some job) result → host.new ≡ host.old }
     ensures clock { StaysAway (Some job) result → clock.new ≡ clock.old }
 {
     match job {
-        Job::Replay => write_replay(replay(alloc, text), out),
-        Job::Summary => write_replay(summarize(alloc, text), out),
+        Job::Replay => replay(alloc, text, out),
+        Job::Summary => summarize(alloc, text, out),
         Job::Check => write_answer(check(alloc, text), out),
         Job::Generate { number, count } => write_answer(generate(alloc, number, count), out),
         Job::Node { role, index, turns } => {
@@ -138,9 +107,15 @@ fn perform<S: Source, K: Sink, H: Host, C: Clock>(
     ensures front { result ≡ Ending.WriteFault
         → IfSome (given words.now (S.left input.old))
         (PrintedFront (answered words.now) (K.written out.old) (K.written out.new)) }
+    ensures stopped { StopsShort (job_of words.now) result → IfSome (given words.now (S.left input.old))
+        (λ text. Fronts (K.written out.old) (K.written out.new) (answered words.now text)) }
+    ensures full { result ≡ Ending.JournalFull
+        → IfSome (given words.now (S.left input.old)) (FillsFor (job_of words.now)) }
+    ensures room { result ≡ Ending.Done
+        → IfSome (given words.now (S.left input.old)) (HasRoomFor (job_of words.now)) }
     ensures link { result ≡ Ending.LinkFault → Rose (H.link_faults host.old) (H.link_faults host.new) }
     ensures disk { result ≡ Ending.DiskFault → Rose (H.disk_faults host.old) (H.disk_faults host.new) }
-    ensures kept { IsRefusal result → out.new ≡ out.old }
+    ensures kept { KeepsOut (job_of words.now) result → out.new ≡ out.old }
     ensures unread { reads_input (job_of words.now) ≡ false → input.new ≡ input.old }
     ensures kind { EndsBy (job_of words.now) result }
     ensures host { StaysAway (job_of words.now) result → host.new ≡ host.old }
@@ -164,7 +139,8 @@ fn perform<S: Source, K: Sink, H: Host, C: Clock>(
 ///
 /// Statuses are tested in this order: Usage, ReadFault, TooLong, BadConfig or BadSchedule; then the first of LinkFault,
 /// DiskFault, Damaged, WrongDisk, Spent and JournalFull that a node meets, or WriteFault; NoMemory may come in place of
-/// any but Usage. Before WriteFault nothing is written to `out`.
+/// any but Usage. The lines of a schedule of nodes are written as they come: after WriteFault, JournalFull and NoMemory a
+/// front of them stands on `out`. Every other status but Done and WriteFault leaves `out` as it was.
 pub fn run<S: Source, K: Sink, H: Host, C: Clock>(
     alloc: Global,
     words: &[String],
@@ -208,13 +184,19 @@ pub fn run<S: Source, K: Sink, H: Host, C: Clock>(
     ensures write { result ≡ Status.WriteFault → Rose (K.faults out.old) (K.faults out.new) }
     ensures link { result ≡ Status.LinkFault → Rose (H.link_faults host.old) (H.link_faults host.new) }
     ensures disk { result ≡ Status.DiskFault → Rose (H.disk_faults host.old) (H.disk_faults host.new) }
+    ensures full { result ≡ Status.JournalFull
+        → IfSome (given words.now (S.left input.old)) (FillsFor (job_of words.now)) }
+    ensures room { result ≡ Status.Done
+        → IfSome (given words.now (S.left input.old)) (HasRoomFor (job_of words.now)) }
     ensures kind { HasStatusBy (job_of words.now) result }
 
     // What stands on the two sinks otherwise.
     ensures front { result ≡ Status.WriteFault
         → IfSome (given words.now (S.left input.old))
         (PrintedFront (answered words.now) (K.written out.old) (K.written out.new)) }
-    ensures kept { Refuses result → out.new ≡ out.old }
+    ensures stopped { EndsShort (job_of words.now) result → IfSome (given words.now (S.left input.old))
+        (λ text. Fronts (K.written out.old) (K.written out.new) (answered words.now text)) }
+    ensures kept { HasNoAnswer (job_of words.now) result → out.new ≡ out.old }
     ensures told { ¬ (Rose (K.faults err.old) (K.faults err.new))
         → TellsLine (answered words.now) (given words.now (S.left input.old)) (K.written err.old) (K.written err.new)
         result }

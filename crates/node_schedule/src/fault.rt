@@ -1,4 +1,4 @@
-/// Why a text has no transcript.
+/// Why a text has no transcript, or why it isn't written to its end.
 #[derive(Debug, Drop)]
 pub enum ScheduleFault {
     /// The configuration is no JSON.
@@ -9,5 +9,7 @@ pub enum ScheduleFault {
     Line(u64),
     /// An entry would pass the bound of a node's journal.
     Full,
+    /// A call of the sink failed.
+    Write,
     NoMemory,
 }

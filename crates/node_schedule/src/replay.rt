@@ -1,81 +1,74 @@
-ghost use Rattle.std.specs.Prelude.{◌<◌, ◌+◌, ◌^◌, IfSome, Ok, OnOk, Some, length};
-ghost use Rattle.std.specs.Option.{option_copied};
-ghost use Rattle.node_schedule.specs.Answers.{Answers};
-ghost use Rattle.node_schedule.specs.Safety.{IsSafeRun, IsSafeText};
-ghost use Rattle.node_schedule.specs.Schedule.{node_lines, scheduled_by, transcribed, under};
-ghost use Rattle.world_spec.specs.Transcript.{transcript_text};
+ghost use Rattle.std.specs.Prelude.{◌≡◌, ◌<◌, ◌+◌, ◌^◌, IsErr, Ok, OnOk, length};
+ghost use Rattle.node_schedule.specs.Answers.{CountsLines, Writes, WritesFront};
+ghost use Rattle.node_schedule.specs.Safety.{IsSafeText};
+ghost use Rattle.node_schedule.specs.Schedule.{scheduled};
 
 use crate::fault::ScheduleFault;
 use crate::laws::roles_follow;
-use crate::text::halves;
-use config_text::ConfigFault;
+use crate::reading::read;
 use node_roles::Role;
-use schedule_text::{Event, LineFault, read_schedule};
+use outside_io::Sink;
+use schedule_text::Event;
 use std::alloc::Global;
+use transcript_summary::Counts;
 use vip_config::Config;
-use world_model::{WorldFault, replay};
-use world_safety::always_safe;
+use world_model::{ReplayFault, WorldFault, count_lines, replay};
 
-/// The transcript of some events.
-fn transcript(alloc: Global, cfg: &Config, events: &[Event]) -> Result<String, ScheduleFault>
-    ensures { Answers result (Ok (transcript_text cfg.now events.now)) }
+/// Writes the transcript of some events.
+fn write_run<K: Sink>(
+    alloc: Global,
+    cfg: &Config,
+    events: &[Event],
+    out: &mut K,
+) -> Result<(), ScheduleFault>
+    ensures answer { Writes (K.written out.old) (K.written out.new) (K.faults out.old) (K.faults out.new) result
+        (Ok (cfg.now, events.now)) }
+    ensures front { WritesFront (K.written out.old) (K.written out.new) (Ok (cfg.now, events.now)) }
 {
     roles_follow();
-    match replay::<Role>(alloc, cfg, events) {
-        Ok(lines) => Ok(lines),
+    match replay::<Role, K>(alloc, cfg, events, out) {
+        Ok(()) => Ok(()),
+        Err(ReplayFault::Full { .. }) => Err(ScheduleFault::Full),
+        Err(ReplayFault::Write) => Err(ScheduleFault::Write),
+        Err(ReplayFault::NoMemory) => Err(ScheduleFault::NoMemory),
+    }
+}
+
+/// How many lines of each kind the transcript of some events has.
+fn count_run(alloc: Global, cfg: &Config, events: &[Event]) -> Result<Counts, ScheduleFault>
+    ensures { CountsLines result (Ok (cfg.now, events.now)) }
+{
+    roles_follow();
+    match count_lines::<Role>(alloc, cfg, events) {
+        Ok(counts) => Ok(counts),
         Err(WorldFault::Full { .. }) => Err(ScheduleFault::Full),
         Err(WorldFault::NoMemory) => Err(ScheduleFault::NoMemory),
     }
 }
 
-/// Each moment of the run of these lines is safe.
-fn runs_safely(cfg: &Config, lines: &[u8])
-    ensures { IsSafeRun (under cfg.now (Some lines.now)) }
-{
-    let _ = lines;
-    cfg.keeps_rules();
-    always_safe();
-}
-
-/// The transcript of the lines behind a configuration.
-fn lines_under(alloc: Global, cfg: &Config, lines: &[u8]) -> Result<String, ScheduleFault>
-    requires { length lines.now + 1 < 2 ^ 32 }
-    ensures answer { Answers result (transcribed (under cfg.now (Some lines.now))) }
-    ensures safe { IsSafeRun (under cfg.now (Some lines.now)) }
-{
-    runs_safely(cfg, lines);
-    match read_schedule(alloc, lines, cfg) {
-        Ok(events) => transcript(alloc, cfg, events.as_slice()),
-        Err(LineFault::Line(number)) => Err(ScheduleFault::Line(number)),
-        Err(LineFault::NoMemory) => Err(ScheduleFault::NoMemory),
-    }
-}
-
-/// The transcript of a configuration and of the lines behind it, where there are any.
-fn lines_of(alloc: Global, config: &[u8], lines: Option<&[u8]>) -> Result<String, ScheduleFault>
-    requires { IfSome lines (λ x. length x.now + 1 < 2 ^ 32) }
-    ensures answer { Answers result (transcribed (scheduled_by (config.now, option_copied lines.entry))) }
-    ensures safe { OnOk result (IsSafeRun (scheduled_by (config.now, option_copied lines.entry))) }
-{
-    match Config::read(alloc, config) {
-        Ok(cfg) => match lines {
-            Some(lines) => lines_under(alloc, &cfg, lines),
-            None => Err(ScheduleFault::Line(0)),
-        },
-        Err(ConfigFault::Json) => Err(ScheduleFault::Json),
-        Err(ConfigFault::Field(path)) => Err(ScheduleFault::Field(path)),
-        Err(ConfigFault::NoMemory) => Err(ScheduleFault::NoMemory),
-    }
-}
-
-/// The transcript of a schedule of nodes, or why the text is none: first the configuration's first fault, then the
-/// first bad line. The first event happens once the whole text is read. Reading a line costs what its words do; an
-/// event costs what its nodes do. Each moment of a run that is written is safe.
-pub fn node_lines(alloc: Global, text: &[u8]) -> Result<String, ScheduleFault>
+/// Writes the transcript of a schedule of nodes, or tells why the text is none: first the configuration's first fault,
+/// then the first bad line. The first event happens once the whole text is read, and lines are written as they come.
+/// After a fault a front of them is written; nothing where the text is no schedule. Reading a line costs what its words
+/// do; an event costs what its nodes do. Memory grows with what was sent. Each moment of a run that is written is safe.
+pub fn write_lines<K: Sink>(alloc: Global, text: &[u8], out: &mut K) -> Result<(), ScheduleFault>
     requires { length text.now + 1 < 2 ^ 32 }
-    ensures answer { Answers result (node_lines text.now) }
+    ensures answer { Writes (K.written out.old) (K.written out.new) (K.faults out.old) (K.faults out.new) result
+        (scheduled text.now) }
+    ensures front { WritesFront (K.written out.old) (K.written out.new) (scheduled text.now) }
+    ensures nothing { IsErr (scheduled text.now) → out.new ≡ out.old }
     ensures safe { OnOk result (IsSafeText text.now) }
 {
-    let (config, lines) = halves(text);
-    lines_of(alloc, config, lines)
+    let (cfg, events) = read(alloc, text)?;
+    write_run(alloc, &cfg, events.as_slice(), out)
+}
+
+/// How many lines of each kind the transcript of a schedule of nodes has, or why the text is none, as
+/// [`write_lines`] tells it.
+pub fn count_transcript(alloc: Global, text: &[u8]) -> Result<Counts, ScheduleFault>
+    requires { length text.now + 1 < 2 ^ 32 }
+    ensures answer { CountsLines result (scheduled text.now) }
+    ensures safe { OnOk result (IsSafeText text.now) }
+{
+    let (cfg, events) = read(alloc, text)?;
+    count_run(alloc, &cfg, events.as_slice())
 }

@@ -1,5 +1,6 @@
 // Whole schedules: what they print, or why they are none.
-use crate::{ScheduleFault, node_lines};
+use crate::{ScheduleFault, count_transcript, write_lines};
+use outside_io::MemSink;
 use std::alloc::{AllocError, Global};
 use std::test::Fail;
 
@@ -14,18 +15,35 @@ const SMALL: &str =
 /// The longest text of a test, in bytes.
 const LONGEST: usize = 10_000;
 
+/// Why a text has no transcript, as a line.
+fn told_fault(alloc: Global, fault: ScheduleFault) -> Result<String, AllocError> {
+    match fault {
+        ScheduleFault::Json => String::from_str(alloc, "json"),
+        ScheduleFault::Field(path) => Ok(path),
+        ScheduleFault::Line(number) => format!(in alloc; "line {number}"),
+        ScheduleFault::Full => String::from_str(alloc, "full"),
+        ScheduleFault::Write => String::from_str(alloc, "write"),
+        ScheduleFault::NoMemory => String::from_str(alloc, "no memory"),
+    }
+}
+
+/// Bytes as text.
+fn text_of(alloc: Global, bytes: &[u8]) -> Result<String, AllocError> {
+    match str::from_utf8(bytes) {
+        Ok(text) => String::from_str(alloc, text),
+        Err(_) => String::from_str(alloc, "no text"),
+    }
+}
+
 /// What a text is answered: its transcript, or a line that says why there is none.
 fn told(alloc: Global, text: &[u8]) -> Result<String, AllocError> {
     if text.len() > LONGEST {
         return String::from_str(alloc, "too long for a test");
     }
-    match node_lines(alloc, text) {
-        Ok(lines) => Ok(lines),
-        Err(ScheduleFault::Json) => String::from_str(alloc, "json"),
-        Err(ScheduleFault::Field(path)) => Ok(path),
-        Err(ScheduleFault::Line(number)) => format!(in alloc; "line {number}"),
-        Err(ScheduleFault::Full) => String::from_str(alloc, "full"),
-        Err(ScheduleFault::NoMemory) => String::from_str(alloc, "no memory"),
+    let mut out = MemSink::new(Vec::new(alloc), 4096, Vec::new(alloc));
+    match write_lines(alloc, text, &mut out) {
+        Ok(()) => text_of(alloc, out.bytes()),
+        Err(fault) => told_fault(alloc, fault),
     }
 }
 
@@ -212,5 +230,26 @@ fn a_crash_within_a_step_says_nothing(rt: HostRuntime) -> Result<(), Fail> {
         event deliver 3\n\
         sent 7 replica 2 replica 0 010102000000000000000500000000000000000000000000000000\n"
     );
+    Ok(())
+}
+
+/// How many lines of each kind a text's transcript has, or a line that says why there is none.
+fn counted(alloc: Global, text: &[u8]) -> Result<String, AllocError> {
+    if text.len() > LONGEST {
+        return String::from_str(alloc, "too long for a test");
+    }
+    match count_transcript(alloc, text) {
+        Ok(counts) => format!(in alloc; "{} {} {}", counts.events, counts.sent, counts.drops),
+        Err(fault) => told_fault(alloc, fault),
+    }
+}
+
+#[test]
+fn a_transcript_is_counted(rt: HostRuntime) -> Result<(), Fail> {
+    let alloc = rt.alloc();
+    let mut text = String::from_str(alloc, SMALL)?;
+    text.push_str("\n---\ntick mux 0 1000\nsettle 5\ntick replica 0 1000\nsettle 10\n")?;
+    let out = counted(alloc, text.as_bytes())?;
+    assert_eq!(rt; out.as_str(), "19 15 2");
     Ok(())
 }

@@ -1,6 +1,6 @@
 use Rattle.ananta_top.specs.Answers.{answered}
 use Rattle.ananta_top.specs.Words.{given, job_of}
-use Rattle.ananta_top.proofs.Ends.{complete, line_told, node_ends, status_by, stays_away, taken}
+use Rattle.ananta_top.proofs.Ends.{complete, keeps_out, line_told, node_ends, status_by, stays_away, stops_short, taken}
 use Rattle.ananta_top.proofs.top.run.Goals as goal
 
 pub returns-clause-node : goal.returns-clause-node
@@ -45,3 +45,13 @@ pub returns-clause-clock : goal.returns-clause-clock
 returns-clause-clock g c = λ away.
     c.perform-ending.ensures.clock
     (stays_away (job_of c.args.words.now) c.perform-ending.result (rw (c.status_of.ensures) at away))
+
+pub returns-clause-stopped : goal.returns-clause-stopped
+returns-clause-stopped g c = λ short.
+    c.perform-ending.ensures.stopped
+    (stops_short (job_of c.args.words.now) c.perform-ending.result (rw (c.status_of.ensures) at short))
+
+pub returns-clause-kept : goal.returns-clause-kept
+returns-clause-kept g c = λ none.
+    c.perform-ending.ensures.kept
+    (keeps_out (job_of c.args.words.now) c.perform-ending.result (rw (c.status_of.ensures) at none))

@@ -1,5 +1,5 @@
 use Rattle.node_schedule.proofs.Safe.{safe_lines}
-use Rattle.node_schedule.proofs.replay.runs_safely.Goals as goal
+use Rattle.node_schedule.proofs.reading.runs_safely.Goals as goal
 
 pub returns : goal.returns
 returns c =
