@@ -2,10 +2,11 @@ use Rattle.node_schedule.proofs.Follows.{finds_room, overflowed, wrote, wrote_fr
 use Rattle.node_schedule.proofs.replay.write_run.Goals as goal
 
 pub returns-in-Ok-clause-answer : goal.returns-in-Ok-clause-answer
-returns-in-Ok-clause-answer g c =
-    (finds_room c.args.cfg.now c.args.events.now _ c.roles_follow.ensures c.replay.ensures.overflow c.in-Ok.ensures.full,
-    wrote c.args.cfg.now c.args.events.now _ _ _ c.roles_follow.ensures c.replay.ensures.transcript
-    c.in-Ok.ensures.written)
+returns-in-Ok-clause-answer g c = (
+  finds_room c.args.cfg.now c.args.events.now _ c.roles_follow.ensures c.replay.ensures.overflow c.in-Ok.ensures.full,
+  wrote c.args.cfg.now c.args.events.now _ _ _ c.roles_follow.ensures c.replay.ensures.transcript
+      c.in-Ok.ensures.written,
+)
 
 pub returns-in-Ok-clause-front : goal.returns-in-Ok-clause-front
 returns-in-Ok-clause-front g c =
