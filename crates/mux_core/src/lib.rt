@@ -27,6 +27,3 @@ mod sends;
 mod table;
 
 pub use mux::Mux;
-
-#[cfg(test)]
-mod tests;
