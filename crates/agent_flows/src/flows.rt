@@ -12,7 +12,7 @@ use crate::keys::{private_key, public_key};
 use crate::looked::Looked;
 use crate::opened::Opened;
 use crate::places::{forget, place_of, put};
-use crate::slots::{look_on, nth, resumed, slot_at};
+use crate::slots::{look_on, nth, past_last, resumed, slot_at};
 use agent_spec::Connection;
 use indexmap::IndexMap;
 use std::alloc::Global;
@@ -128,6 +128,13 @@ impl Flows {
         Ok(())
     }
 
+    // The last connection needn't be looked at when idle ones are looked for, where all before it were looked at.
+    fn notice_last(&mut self)
+        ensures { self.new ≡ self.old }
+    {
+        self.looked = past_last(&self.slots, self.looked);
+    }
+
     /// One connection more, where fewer than 65,536 are kept; else they stay as they were, as they do without memory.
     pub fn open(&mut self, c: Connection) -> Result<Opened, NoMemory>
         requires private { by_private (private_key c) self.old ≡ None }
@@ -145,6 +152,7 @@ impl Flows {
         } else {
             self.add(c)?;
         }
+        self.notice_last();
         Ok(Opened::Yes)
     }
 
