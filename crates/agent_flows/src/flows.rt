@@ -12,7 +12,7 @@ use crate::keys::{private_key, public_key};
 use crate::looked::Looked;
 use crate::opened::Opened;
 use crate::places::{forget, place_of, put};
-use crate::slots::{look_on, nth, resumed, slot_at};
+use crate::slots::{look_on, nth, past_last, resumed, slot_at};
 use agent_spec::Connection;
 use indexmap::IndexMap;
 use std::alloc::Global;
@@ -109,6 +109,14 @@ impl Flows {
         Ok(flows)
     }
 
+    /// The last slot needn't be looked at again for idleness, where all before it were. So a tick finds those that
+    /// opened since the last one, and those that were moved together, already looked at.
+    fn notice_last(&mut self)
+        ensures { self.new ≡ self.old }
+    {
+        self.looked = past_last(&self.slots, self.looked);
+    }
+
     /// One connection more, where there is room.
     fn add(&mut self, c: Connection) -> Result<(), NoMemory>
         requires private { by_private (private_key c) self.old ≡ None }
@@ -125,6 +133,7 @@ impl Flows {
         put(&mut self.by_public, public_key(&c), place);
         self.slots.push(Some(c)).unwrap();
         self.live += 1;
+        self.notice_last();
         Ok(())
     }
 

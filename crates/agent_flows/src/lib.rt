@@ -13,8 +13,9 @@
 //! | `flows` | the public calls |
 //!
 //! Each call costs a look-up or two, but for three. [`Flows::expire`] goes on where it stopped, so a tick looks at each
-//! connection at most once, and at none that can't be idle yet. [`Flows::open`] moves all connections together once
-//! half of the slots are empty, so each is moved once for each two that were opened. [`Flows::connection`] walks.
+//! connection at most once, and at none that can't be idle yet: one that opens is passed over at once, with the time of
+//! its last use. [`Flows::open`] moves all connections together once half of the slots are empty, so each is moved once
+//! for each two that were opened. [`Flows::connection`] walks.
 //!
 //! Left to the caller: a connection that is opened has keys that no other has.
 #![tactic(auto)]

@@ -68,6 +68,18 @@ fn past(slots: &[Option<Connection>], looked: Looked) -> Looked
     }
 }
 
+/// Past the last slot, where the look has come up to it.
+pub fn past_last(slots: &[Option<Connection>], looked: Looked) -> Looked
+    requires { IsLooked slots.now looked }
+    ensures { IsLooked slots.now result }
+{
+    if looked.at + 1 == slots.len() {
+        past(slots, looked)
+    } else {
+        looked
+    }
+}
+
 /// As far as the look for idle ones needn't begin again: none of those that were looked at can be idle for so long.
 pub fn resumed(slots: &[Option<Connection>], looked: Looked, now: u64, idle: u64) -> Looked
     requires { IsLooked slots.now looked }

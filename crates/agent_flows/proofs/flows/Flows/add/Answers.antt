@@ -35,6 +35,7 @@ invariant_of-self-2 c =
 pub returns-clause-ok : goal.returns-clause-ok
 returns-clause-ok c =
     let items : c.push.new.self.items ≡ c.self.inside.slots.items ++ Some c.args.c ∷ [] = search rules in
-    ap listed items
+    c.notice_last.ensures
+    ∙ ap listed items
     ∙ listed_push c.self.inside.slots.items c.args.c
     ∙ ap (λ (l : List Connection). l ++ c.args.c ∷ []) c.self.view_is
