@@ -1,10 +1,10 @@
 -- Ascending numbers, the least number above them, and the count of live entries, after each edit.
-use Rattle.std.proofs.Common.{◌≡◌, ◌≢◌, ℕ, zero, suc, ◌+◌, ◌-◌, ◌^◌, ◌<◌, ◌≤◌, ◌==◌, Bool, true, false, not, cond, max, List, [], ◌∷◌, ◌++◌, map, filter, find, length, Option, Some, None, is_some, IsSome, nat_lt, nat_le, if◌then◌else◌, refl, ap, sym, ◌∙◌, subst, arith, true≢false, length-append}
+use Rattle.std.proofs.Common.{◌≡◌, ℕ, ◌+◌, ◌-◌, ◌^◌, ◌<◌, ◌≤◌, ◌==◌, Bool, true, false, not, cond, max, List, [], ◌∷◌, ◌++◌, map, filter, length, IsSome, if◌then◌else◌, refl, ap, sym, ◌∙◌, subst, arith, true≢false, length-append}
 use Rattle.std.proofs.lemmas.Bool.Decides.{nat_tests}
 use Rattle.std.proofs.lemmas.List.{length-map}
 use Rattle.lease_spec.specs.declared.row.Row.{Row}
 use Rattle.lease_spec.specs.declared.row.Phase.{Phase}
-use Rattle.lease_spec.specs.Table.{at_phase, cleared, move, row_at}
+use Rattle.lease_spec.specs.Table.{at_phase, cleared, row_at}
 use Rattle.lease_rows.specs.declared.entries.Entry.{Entry}
 use Rattle.lease_rows.specs.Entries.{AllAbove, Ascend, InOrder, IsCounted, RowsAbove, RowsAscend, RowsBelow, at_number, dead, live_rows, next_number, with_row}
 use Rattle.lease_rows.proofs.LiveRows.{live_rows-bury, live_rows-filter, live_rows-move, live_rows-push, live_rows-with}

@@ -1,13 +1,11 @@
 -- The rows of the live entries, after an edit of the entries, and what is found among them.
-use Rattle.std.proofs.Common.{◌≡◌, ◌≢◌, ℕ, zero, suc, ◌+◌, ◌<◌, ◌≤◌, ◌==◌, Bool, true, false, not, cond, max, List, [], ◌∷◌, ◌++◌, map, filter, find, length, get_or, drop, Option, Some, None, nat_lt, nat_le, if◌then◌else◌, refl, ap, sym, ◌∙◌, subst, arith}
+use Rattle.std.proofs.Common.{◌≡◌, ◌≢◌, ℕ, zero, suc, ◌+◌, ◌<◌, ◌≤◌, ◌==◌, true, not, List, [], ◌∷◌, ◌++◌, map, filter, find, length, get_or, drop, Option, Some, None, if◌then◌else◌, refl, arith}
 use Rattle.std.proofs.lemmas.Bool.Decides.{nat_tests}
-use Rattle.std.proofs.lemmas.List.{get_or_default}
-use Rattle.std.proofs.lemmas.Grind.{common_steps}
 use Rattle.lease_spec.specs.declared.row.Row.{Row}
 use Rattle.lease_spec.specs.declared.row.Phase.{Phase}
 use Rattle.lease_spec.specs.Table.{at_phase, move, row_at}
 use Rattle.lease_rows.specs.declared.entries.Entry.{Entry}
-use Rattle.lease_rows.specs.Entries.{AllAbove, Ascend, SplitsAt, HasAt, Lacks, at_number, dead, live_rows, next_number, row_of, with_row}
+use Rattle.lease_rows.specs.Entries.{AllAbove, Ascend, SplitsAt, HasAt, Lacks, at_number, dead, live_rows, row_of, with_row}
 use Rattle.lease_rows.specs.Effects.{boot_effects, cleared_effects}
 use Rattle.lease_rows.specs.Walks.{row_above}
 use Rattle.lease_rows.proofs.Places.{above_at}

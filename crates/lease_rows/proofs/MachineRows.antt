@@ -1,5 +1,5 @@
 -- A machine's rows, and the rows in a phase, one after the other by number.
-use Rattle.std.proofs.Common.{◌≡◌, ℕ, ◌+◌, ◌==◌, ◌&&◌, List, [], ◌∷◌, Option, Some, None, nat_lt, refl, ap, sym, ◌∙◌, arith}
+use Rattle.std.proofs.Common.{◌≡◌, ℕ, ◌==◌, ◌&&◌, List, [], ◌∷◌, Option, Some, None, nat_lt, refl, ap, sym, ◌∙◌, arith}
 use Rattle.wire_core.specs.declared.address.Ip4.{Ip4}
 use Rattle.lease_spec.specs.declared.row.Phase.{Phase}
 use Rattle.lease_spec.specs.declared.row.Row.{Row}

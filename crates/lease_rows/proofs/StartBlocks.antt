@@ -1,8 +1,7 @@
 -- Flags and their blocks: the first flag that is set, a flag that is written, no flags.
-use Rattle.std.proofs.Common.{◌≡◌, ℕ, zero, suc, ◌+◌, ◌-◌, ◌*◌, ◌<◌, ◌≤◌, Bool, true, false, cond, List, [], ◌∷◌, ◌++◌, take, drop, set, replicate, length, Option, Some, None, if◌then◌else◌, refl, ap, sym, ◌∙◌, subst, arith, length-append}
+use Rattle.std.proofs.Common.{◌≡◌, ℕ, zero, suc, ◌+◌, ◌-◌, ◌*◌, ◌<◌, ◌≤◌, Bool, true, false, List, [], ◌∷◌, ◌++◌, take, drop, set, replicate, length, get_or, Some, None, refl, ap, sym, ◌∙◌, subst, arith}
 use Rattle.std.proofs.Math.Nat.{mul-suc}
 use Rattle.std.proofs.lemmas.List.{length-drop, drop-set-add, drop-set-lt, take-set-le, nil_from_length}
-use Rattle.std.specs.List.{list_any}
 use Rattle.lease_rows.specs.Starts.{IsFound, Summarizes, any_set, first_flag}
 
 drop_nil : {X : Type 0} (n : ℕ) → drop {A = X} n [] ≡ []
@@ -82,6 +81,21 @@ covered size (block ∷ blocks) flags sums =
     let long : length (drop size flags) ≡ length flags - size = length-drop size flags in
     let more : size * suc (length blocks) ≡ size * length blocks + size = mul-suc size (length blocks) in
     omega (arith, rest, long, more)
+
+-- each block tells of its flags, and there are blocks for all
+pub summed : (size : ℕ) (blocks flags : List Bool)
+    → ((k : ℕ) → k < length blocks → get_or blocks k false ≡ any_set (take size (drop (size * k) flags)))
+    → length flags ≤ size * length blocks → Summarizes size blocks flags
+summed size [] flags each long = nil_from_length flags (omega arith)
+summed size (block ∷ blocks) flags each long =
+    let more : size * suc (length blocks) ≡ size * length blocks + size = mul-suc size (length blocks) in
+    let short : length (drop size flags) ≡ length flags - size = length-drop size flags in
+    let start : size * 0 ≡ 0 = omega arith in
+    let here : block ≡ any_set (take size flags) = each zero (omega arith) ∙ ap (λ n. any_set (take size (drop n flags))) start in
+    let rest : (k : ℕ) → k < length blocks → get_or blocks k false ≡ any_set (take size (drop (size * k) (drop size flags))) = λ k lt.
+        let step : size * suc k ≡ size + size * k = let one = mul-suc size k in omega (arith, one) in
+        each (suc k) (omega arith) ∙ ap (λ xs. any_set (take size xs)) (sym (drop_again size (size * k) (size * suc k) flags step)) in
+    (here, summed size blocks (drop size flags) rest (omega (arith, more, short, long)))
 
 -- ---- one flag is written
 

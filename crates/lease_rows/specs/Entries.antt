@@ -1,5 +1,5 @@
 -- Rows that are found by number: entries in ascending order, of which some are dead.
-use Rattle.std.specs.Prelude.{◌≡◌, ◌≢◌, Option, Some, None, ℕ, ◌+◌, ◌^◌, ◌<◌, ◌≤◌, ◌==◌, Bool, false, max, List, [], ◌∷◌, map, length, get_or, if◌then◌else◌}
+use Rattle.std.specs.Prelude.{◌≡◌, ◌≢◌, Option, Some, None, ℕ, ◌+◌, ◌^◌, ◌<◌, ◌≤◌, ◌==◌, false, max, List, [], ◌∷◌, length, get_or, if◌then◌else◌}
 use Rattle.lease_spec.specs.declared.row.Row.{Row}
 use Rattle.lease_rows.specs.declared.entries.Entry.{Entry}
 

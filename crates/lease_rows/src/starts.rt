@@ -1,5 +1,5 @@
 ghost use Rattle.std.specs.Prelude.{◌≡◌, ◌<◌, ◌≤◌, ◌+◌, ◌*◌, ◌^◌, take, drop, length, slice_set, IfOk};
-ghost use Rattle.lease_rows.specs.Starts.{IsFound, any_set, first_flag};
+ghost use Rattle.lease_rows.specs.Starts.{IsFound, IsSummary, any_set, first_flag};
 
 use std::alloc::Global;
 use std::marker::Model;
@@ -60,6 +60,17 @@ fn any_in_block(free: &[bool], block: usize) -> bool
     any(flags)
 }
 
+/// Of each block of the flags whether some are set.
+fn sum_up(flags: &[bool], blocks: &mut [bool])
+    requires count { length flags.now ≡ 64 * length blocks.old }
+    requires few { length blocks.old ≤ 128 }
+    ensures { IsSummary blocks.new flags.now }
+{
+    for block in 0..blocks.len() {
+        blocks[block] = any_in_block(flags, block);
+    }
+}
+
 /// The least free start, where none below `place` is free.
 fn first_start(free: &[bool], place: u32) -> Option<u16>
     requires within { length free.now ≤ 8192 }
@@ -87,6 +98,16 @@ impl Starts {
             free,
             blocks: summary,
         })
+    }
+
+    /// The flags of a VIP's 8,192 starts, all at once: a look at each.
+    pub fn put(&mut self, flags: &[bool])
+        requires starts { length self.old ≡ 8192 }
+        requires flags { length flags.now ≡ 8192 }
+        ensures { self.new ≡ flags.now }
+    {
+        self.free.copy_from_slice(flags);
+        sum_up(flags, &mut self.blocks);
     }
 
     /// Whether the start with this index is free from now on. An index past the starts changes nothing.

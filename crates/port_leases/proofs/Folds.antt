@@ -1,5 +1,5 @@
 -- Commands one after the other, and how many effects they can have.
-use Rattle.std.proofs.Common.{◌≡◌, ℕ, zero, suc, ◌+◌, ◌-◌, ◌*◌, ◌<◌, ◌≤◌, ◌==◌, Bool, true, false, not, ◌&&◌, ◌||◌, cond, nat_lt, nat_le, find, filter, List, [], ◌∷◌, ◌++◌, map, length, count_by, drop, take, slice_get, Option, Some, None, if◌then◌else◌, refl, ap, sym, ◌∙◌, subst, arith, true≢false, append_assoc, append-nil, length-append}
+use Rattle.std.proofs.Common.{◌≡◌, ℕ, zero, suc, ◌+◌, ◌*◌, ◌<◌, ◌≤◌, ◌==◌, Bool, true, false, not, ◌&&◌, ◌||◌, cond, nat_lt, nat_le, filter, List, [], ◌∷◌, ◌++◌, map, length, count_by, drop, take, slice_get, Option, Some, None, if◌then◌else◌, refl, ap, sym, ◌∙◌, subst, arith, true≢false, append_assoc, append-nil, length-append}
 use Rattle.std.specs.List.{fold, list_any}
 use Rattle.wire_core.specs.declared.rules.LeaseRules.{LeaseRules}
 use Rattle.wire_core.specs.declared.rules.MachineRule.{MachineRule}
@@ -8,7 +8,7 @@ use Rattle.lease_spec.specs.declared.row.Row.{Row}
 use Rattle.lease_spec.specs.declared.effect.Effect.{Effect}
 use Rattle.lease_spec.specs.Places.{Placed, placed}
 use Rattle.lease_spec.specs.declared.row.Phase.{Phase}
-use Rattle.lease_spec.specs.Table.{Done, Leases, apply, at_phase, cleared, command, decide, free, grant, is_being, is_freeing, is_later, is_stale, known_boot, last_of, move, new_row, next as nexts, nothing, noted, raise_known, release, reserve, row_at, row_count, rule_of, take_range, tell, up, with_known}
+use Rattle.lease_spec.specs.Table.{Done, Leases, apply, at_phase, cleared, command, decide, free, grant, is_being, is_freeing, is_later, known_boot, last_of, move, new_row, next as nexts, nothing, noted, raise_known, release, reserve, row_at, row_count, rule_of, take_range, tell, up, with_known}
 use Rattle.lease_spec.specs.Free.{least_free}
 use Rattle.lease_spec.specs.declared.row.Phase.TheVariants.{BeingLeased, Leased, Freeing}
 use Rattle.lease_spec.specs.declared.row.Outcome.TheVariants as outcome
@@ -17,13 +17,13 @@ use Rattle.lease_spec.proofs.CauseLaws.{row_number}
 use Rattle.wire_core.specs.declared.address.Ip4.{Ip4}
 use Rattle.wire_core.specs.declared.range.Range.{Range}
 use Rattle.std.proofs.lemmas.List.Sums.{count_by-le-length, sum_by-cons, sum_by_push}
-use Rattle.std.proofs.lemmas.Bool.{eqb-true, eq-eqb}
+use Rattle.std.proofs.lemmas.Bool.{eqb-true}
 use Rattle.std.proofs.lemmas.Bool.Decides.{nat_tests}
 use Rattle.std.proofs.Math.Bool.{and-false, or-true}
 use Rattle.lease_rows.specs.Effects.{Adds, Told, boot_effects}
 use Rattle.port_leases.specs.Store.{may_raise}
 use Rattle.lease_rows.specs.Entries.{InOrder, RowsAbove, RowsAscend, RowsBelow}
-use Rattle.lease_rows.proofs.Indexed.{by_test, one_at}
+use Rattle.lease_rows.proofs.Indexed.{one_at}
 
 -- ---- one command first
 

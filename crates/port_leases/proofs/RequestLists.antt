@@ -1,15 +1,14 @@
 -- Known boots and last requests in maps, and in the lists that the table tells of.
-use Rattle.std.proofs.Common.{◌≡◌, ℕ, ◌==◌, Bool, true, false, cond, List, [], ◌∷◌, map, find, Option, Some, None, unwrap_or, option_map, nat_eq, if◌then◌else◌, refl, ap, sym, ◌∙◌, subst, arith}
+use Rattle.std.proofs.Common.{◌≡◌, ℕ, List, [], ◌∷◌, Some, unwrap_or, option_map, nat_eq, refl, ap, sym, ◌∙◌, arith}
 use Rattle.std.specs.Map.{lookup}
-use Rattle.std.proofs.lemmas.Bool.{eqb-true, eq-eqb}
 use Rattle.std.proofs.lemmas.Bool.Decides.{nat_tests}
 use Rattle.indexmap.specs.IndexMap.{insert_entry}
 use Rattle.wire_core.specs.declared.address.Ip4.{Ip4}
-use Rattle.lease_spec.specs.Table.{Known, Last, known_boot, last_of, put, with_known, with_last}
+use Rattle.lease_spec.specs.Table.{known_boot, last_of, with_known, with_last}
 use Rattle.port_leases.specs.declared.requests.Request.{Request}
 use Rattle.port_leases.specs.Requests.{last_with}
 use Rattle.lease_rows.specs.Rows.{same_address}
-use Rattle.port_leases.specs.Store.{known_entry, known_of, last_entry, lasts_of}
+use Rattle.port_leases.specs.Store.{known_of, last_entry, lasts_of}
 use Rattle.lease_rows.proofs.Indexed.{address_is, by_test}
 
 pub known_at : (agent : ℕ) (es : List (ℕ × ℕ)) → unwrap_or (lookup (nat_eq agent) es) 0 ≡ known_boot (known_of es) agent

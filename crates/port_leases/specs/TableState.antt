@@ -1,20 +1,15 @@
 -- What callers see of a lease table, and what a slot does to it.
-use Rattle.std.specs.Prelude.{ℕ, ◌+◌, Bool, nat_lt, ◌==◌, ◌&&◌, List, [], ◌∷◌, ◌++◌, Option, Some, None, filter, find}
+use Rattle.std.specs.Prelude.{ℕ, ◌+◌, Bool, ◌==◌, List, [], ◌∷◌, ◌++◌, Option, Some, None}
 use Rattle.std.specs.List.{list_any}
 use Rattle.wire_core.specs.declared.address.Ip4.{Ip4}
-use Rattle.wire_core.specs.declared.range.Range.{Range}
 use Rattle.wire_core.specs.declared.rules.LeaseRules.{LeaseRules}
 use Rattle.wire_core.specs.declared.rules.MachineRule.{MachineRule}
 use Rattle.wire_core.specs.declared.rules.VipRule.{VipRule}
 use Rattle.wire_core.specs.Commands.{LogCommand}
-use Rattle.lease_spec.specs.declared.row.Row.{Row}
 use Rattle.lease_spec.specs.declared.row.Outcome.{Outcome}
-use Rattle.lease_spec.specs.declared.row.Phase.{Phase}
-use Rattle.lease_spec.specs.declared.row.Phase.TheVariants.{BeingLeased, Leased, Freeing}
 use Rattle.lease_spec.specs.declared.effect.Effect.{Effect}
-use Rattle.lease_spec.specs.Free.{same_range}
 use Rattle.lease_spec.specs.Places.{slot_commands}
-use Rattle.lease_spec.specs.Table.{Done, Last, Leases, apply, is_being, is_freeing, is_leased, no_leases}
+use Rattle.lease_spec.specs.Table.{Done, Last, Leases, apply, no_leases}
 pub use Rattle.lease_rows.specs.Walks.{in_phase, onward, onward_all, onward_in, row_above, row_on, rows_above, rows_in, rows_of}
 
 -- The rules, what stands now, and how many slots were applied.

@@ -1,7 +1,7 @@
-ghost use Rattle.std.specs.Prelude.{◌≡◌, ◌<◌, ◌≤◌, ◌+◌, ◌*◌, ◌/◌, ◌^◌, ◌-◌, ◌++◌, ◌∷◌, [], true, false, not, ◌==◌, filter, find, slice_index_or, ℕ, is_ok, nat_le, length, slice_set, Some, None, option_map, IsSomeAnd, if◌then◌else◌, IfSome, IfNone, OnOk, OnErr, IfOk};
+ghost use Rattle.std.specs.Prelude.{◌≡◌, ◌<◌, ◌≤◌, ◌+◌, ◌*◌, ◌/◌, ◌^◌, ◌-◌, ◌++◌, ◌∷◌, [], true, false, not, ◌&&◌, ◌==◌, filter, find, slice_index_or, ℕ, is_ok, nat_le, length, slice_set, Some, None, option_map, IsSomeAnd, if◌then◌else◌, IfSome, IfNone, OnOk, OnErr, IfOk};
 ghost use Rattle.std.specs.Option.{option_or};
 ghost use Rattle.indexmap.specs.IndexMap.{get};
-ghost use Rattle.lease_spec.specs.Free.{is_free, least_free};
+ghost use Rattle.lease_spec.specs.Free.{has_no_row, is_free, least_free};
 ghost use Rattle.lease_spec.specs.Table.{decide, is_later, known_boot, last_of, move, no_leases, noted, raise_known, row_at, row_count, rule_of};
 ghost use Rattle.lease_rows.specs.Effects.{Adds};
 ghost use Rattle.lease_rows.specs.Entries.{InOrder};
@@ -127,18 +127,38 @@ fn leasable_starts(rules: &LeaseRules, vip: Ip4) -> [bool; STARTS]
     leasable
 }
 
-/// The free starts of a VIP: those that may be leased and have no row.
+/// The flags of a VIP's starts go down where a row is on the range.
+fn take_rows(flags: &mut [bool; STARTS], rows: &Rows, vip: Ip4)
+    ensures each { (i : ℕ) → i < 8192 → slice_index_or flags.new i false
+        ≡ slice_index_or flags.old i false && has_no_row rows.now.rows (range_at vip (8 * i)) }
+{
+    for i in 0..8192u16 {
+        let at = usize::from(i);
+        flags[at] = flags[at] && !rows.has_row(Range { vip, start: 8 * i });
+    }
+}
+
+/// Which ranges of the VIP are free: those that may be leased and have no row. Where there are no rows, none is asked
+/// for.
+fn free_flags(rules: &LeaseRules, rows: &Rows, vip: Ip4) -> [bool; STARTS]
+    ensures len { length result ≡ 8192 }
+    ensures each { (i : ℕ) → i < 8192 → slice_index_or result i false
+        ≡ is_free rules.now rows.now.rows (range_at vip (8 * i)) }
+{
+    let mut flags = leasable_starts(rules, vip);
+    if rows.len() > 0 {
+        take_rows(&mut flags, rows, vip);
+    }
+    flags
+}
+
+/// The free starts of a VIP.
 fn fill(starts: &mut Starts, rules: &LeaseRules, rows: &Rows, vip: Ip4)
     requires count { length starts.old ≡ 8192 }
     requires named { has_vip rules.now vip ≡ true }
     ensures { AreFree rules.now rows.now.rows vip starts.new }
 {
-    let leasable = leasable_starts(rules, vip);
-    for i in 0..8192u16 {
-        let at = usize::from(i);
-        let free = leasable[at] && !rows.has_row(Range { vip, start: 8 * i });
-        starts.set(at, free);
-    }
+    starts.put(&free_flags(rules, rows, vip));
 }
 
 /// A VIP's free starts, where the VIP has none yet.

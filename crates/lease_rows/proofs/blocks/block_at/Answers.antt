@@ -1,4 +1,4 @@
-use Rattle.std.proofs.Common.{◌≡◌, ◌≤◌, ◌*◌, length, drop, sym, ap, subst, arith}
+use Rattle.std.proofs.Common.{◌*◌, length, drop, ap, arith}
 use Rattle.std.proofs.lemmas.List.{length-take}
 use Rattle.lease_rows.proofs.blocks.block_at.Goals as goal
 

@@ -1,4 +1,4 @@
-use Rattle.std.proofs.Common.{◌≡◌, ◌<◌, ◌≤◌, ◌*◌, ◌/◌, ◌++◌, [], ◌∷◌, length, take, drop, refl, sym, subst, ◌∙◌, arith}
+use Rattle.std.proofs.Common.{◌<◌, ◌≤◌, ◌*◌, ◌/◌, ◌++◌, [], ◌∷◌, length, drop, sym, subst, ◌∙◌, arith}
 use Rattle.lease_rows.specs.Blocks.{IsBlocked}
 use Rattle.lease_rows.proofs.EntryBlocks.{blocked-more, blocked-next, empty_block, entered, few_block}
 use Rattle.lease_rows.proofs.blocks.extend.Goals as goal

@@ -1,4 +1,4 @@
-use Rattle.std.proofs.Common.{◌≡◌, ◌<◌, ◌*◌, ◌/◌, length, ◌∙◌, arith}
+use Rattle.std.proofs.Common.{◌<◌, ◌*◌, ◌/◌, length, ◌∙◌, arith}
 use Rattle.lease_rows.proofs.EntryBlocks.{blocked-put, counts_in, recounted}
 use Rattle.lease_rows.proofs.blocks.renew.Goals as goal
 

@@ -1,4 +1,4 @@
-use Rattle.std.proofs.Common.{◌≡◌, ℕ, ◌<◌, ◌≤◌, ◌+◌, ◌*◌, length, take, drop, get_or, vec_capacity, vec_len}
+use Rattle.std.proofs.Common.{◌≡◌, ℕ, ◌<◌, ◌≤◌, ◌+◌, ◌*◌, length, take, drop, get_or, vec_capacity}
 use Rattle.lease_rows.specs.declared.blocks.Block.{Block}
 use Rattle.lease_rows.specs.Blocks.{block_of}
 use Rattle.lease_rows.proofs.blocks.renew_all.Given as goal

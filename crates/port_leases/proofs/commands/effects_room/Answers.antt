@@ -1,4 +1,4 @@
-use Rattle.std.proofs.Common.{◌≡◌, false, sym, subst, arith, ◌∙◌}
+use Rattle.std.proofs.Common.{sym, arith, ◌∙◌}
 use Rattle.port_leases.proofs.Folds.{alive-le-length, effects-bound, effects-quiet}
 use Rattle.port_leases.proofs.commands.effects_room.Goals as goal
 

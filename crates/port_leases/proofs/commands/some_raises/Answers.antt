@@ -1,4 +1,4 @@
-use Rattle.std.proofs.Common.{◌≡◌, true, false, sym, ap, arith, ◌∙◌}
+use Rattle.std.proofs.Common.{sym, ◌∙◌}
 use Rattle.port_leases.specs.Store.{may_raise}
 use Rattle.port_leases.proofs.Folds.{any_here, any_more}
 use Rattle.port_leases.proofs.commands.some_raises.Goals as goal

@@ -1,4 +1,4 @@
-use Rattle.std.proofs.Common.{◌≡◌, ◌+◌, ◌-◌, ◌*◌, ◌/◌, ◌%◌, List, drop, find, take, sym, ap, ◌∙◌, arith}
+use Rattle.std.proofs.Common.{◌+◌, ◌-◌, ◌*◌, ◌/◌, ◌%◌, List, drop, find, take, sym, ap, ◌∙◌, arith}
 use Rattle.lease_rows.specs.declared.entries.Entry.{Entry}
 use Rattle.lease_rows.specs.Blocks.{Listed, is_in}
 use Rattle.lease_rows.proofs.EntryBlocks.{near, or_none, or_some}

@@ -1,6 +1,5 @@
 use Rattle.std.proofs.Common.{ap, refl, unwrap_or}
 use Rattle.indexmap.specs.IndexMap.{get}
-use Rattle.lease_rows.specs.declared.links.Ends.{Ends}
 use Rattle.lease_rows.specs.Links.{no_ends, with_last}
 use Rattle.lease_rows.specs.Rows.{same_address}
 use Rattle.lease_rows.proofs.Linked.{ends_to, linked-push}

@@ -1,4 +1,4 @@
-use Rattle.std.proofs.Common.{subst, sym, ap, ◌∙◌, map, length, ◌≤◌, ◌+◌, arith}
+use Rattle.std.proofs.Common.{subst, sym, ap, ◌∙◌, map, length, ◌≤◌}
 use Rattle.lease_spec.specs.Table.{cleared}
 use Rattle.lease_rows.specs.Entries.{IsCounted, live_rows, next_number, Numbered}
 use Rattle.lease_rows.specs.Effects.{Adds, boot_effects, cleared_effects}

@@ -1,4 +1,4 @@
-use Rattle.std.proofs.Common.{◌≡◌, ◌≤◌, ◌-◌, ◌==◌, not, filter, IsSome, subst, sym, ap, ◌∙◌, arith}
+use Rattle.std.proofs.Common.{◌≤◌, ◌-◌, ◌==◌, not, filter, IsSome, subst, sym, ap, ◌∙◌, arith}
 use Rattle.lease_spec.specs.Table.{row_at}
 use Rattle.lease_rows.specs.Entries.{IsCounted, live_rows, next_number, Numbered, RowsAscend}
 use Rattle.lease_rows.proofs.LiveRows.{live_rows-bury, live_rows-filter}

@@ -1,4 +1,4 @@
-use Rattle.std.proofs.Common.{refl, nat_eq, sym, subst, arith}
+use Rattle.std.proofs.Common.{nat_eq, sym, subst, arith}
 use Rattle.lease_spec.specs.Table.{cleared}
 use Rattle.indexmap.specs.IndexMap.{get}
 use Rattle.lease_spec.specs.Free.{same_range}

@@ -1,4 +1,4 @@
-use Rattle.std.proofs.Common.{◌≡◌, ◌<◌, ◌≤◌, ◌||◌, count_by, Some, nat_eq, unwrap_or, sym, ap, subst, ◌∙◌}
+use Rattle.std.proofs.Common.{◌≡◌, ◌||◌, Some, nat_eq, sym, ap, subst, ◌∙◌}
 use Rattle.indexmap.specs.IndexMap.{get}
 use Rattle.lease_spec.specs.Free.{has_no_row, same_range}
 use Rattle.lease_spec.specs.Table.{row_at}

@@ -1,4 +1,4 @@
-use Rattle.std.proofs.Common.{◌≡◌, refl, None, Some, sym, ap, subst, length, arith, ◌∙◌}
+use Rattle.std.proofs.Common.{refl, sym, ap, subst, length, arith, ◌∙◌}
 use Rattle.lease_rows.specs.Starts.{IsFound, first_flag}
 use Rattle.lease_rows.proofs.StartBlocks.{covered, found, not_found}
 use Rattle.lease_rows.proofs.starts.Starts.first.Goals as goal

@@ -1,5 +1,4 @@
-use Rattle.std.proofs.Common.{◌≡◌, ◌≤◌, ◌<◌, ◌+◌, ◌*◌, length, refl, sym, ap, subst, ◌∙◌, arith}
-use Rattle.lease_rows.specs.Starts.{IsSummary, any_set}
+use Rattle.std.proofs.Common.{◌≡◌, ◌*◌, length, arith}
 use Rattle.lease_rows.proofs.StartBlocks.{none_set, resized_none}
 use Rattle.lease_rows.proofs.starts.Starts.new.Goals as goal
 

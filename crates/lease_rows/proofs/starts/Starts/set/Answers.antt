@@ -1,4 +1,4 @@
-use Rattle.std.proofs.Common.{◌≡◌, ◌≤◌, ◌<◌, ◌+◌, ◌*◌, ◌/◌, ◌%◌, length, drop, take, set, refl, sym, ap, subst, ◌∙◌, arith}
+use Rattle.std.proofs.Common.{◌≡◌, ◌<◌, ◌+◌, ◌*◌, ◌/◌, ◌%◌, length, drop, take, set, refl, sym, ap, subst, ◌∙◌, arith}
 use Rattle.lease_rows.specs.Starts.{Summarizes, any_set}
 use Rattle.lease_rows.proofs.StartBlocks.{covered, set_block}
 use Rattle.std.proofs.Math.ListN.{length-set}
