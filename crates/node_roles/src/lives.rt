@@ -10,7 +10,7 @@ use std::test::Fail;
 use vip_config::Config;
 use wire_core::{EntryBytes, Input, NoMemory};
 
-pub fn small(alloc: Global) -> Result<Config, AllocError> {
+pub(crate) fn small(alloc: Global) -> Result<Config, AllocError> {
     match Config::read(alloc, SMALL.as_bytes()) {
         Ok(config) => Ok(config),
         Err(_) => Err(AllocError),
