@@ -1,11 +1,11 @@
 -- Texts one behind the other, each of whole lines.
-use Rattle.std.proofs.Common.{◌≡◌, ◌⊎◌, inl, inr, ℕ, ◌+◌, ◌==◌, Bool, true, false, cond, List, [], ◌∷◌, ◌++◌, refl, sym, ap, ◌∙◌, append_assoc, arith}
+use Rattle.std.proofs.Common.{◌≡◌, inl, inr, ℕ, ◌+◌, ◌==◌, Bool, true, false, cond, List, [], ◌∷◌, ◌++◌, refl, sym, ap, ◌∙◌, append_assoc, arith}
 use Rattle.std.specs.Prelude.{codes}
 use Rattle.std.specs.List.{count_by, onto_first}
 use Rattle.std.proofs.lemmas.List.Sums.{sum_by-append}
 use Rattle.address_text.specs.Fields.{parts}
 use Rattle.address_text.proofs.Parts.{parts_some}
-use Rattle.transcript_summary.specs.Summary.{CountsByPieces, IsWhole, added, begins, counts_of, lines_with}
+use Rattle.transcript_summary.specs.Summary.{CountsByPieces, IsWhole, begins, lines_with}
 
 -- the parts of a text before a separator, and those behind it
 parts_both : (s : ℕ) (a u : List ℕ) → parts s (a ++ s ∷ u) ≡ parts s a ++ parts s u

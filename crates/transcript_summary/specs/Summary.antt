@@ -1,5 +1,5 @@
 -- How many lines of each kind a transcript has.
-use Rattle.std.specs.Prelude.{◌≡◌, ◌⊎◌, ℕ, ◌+◌, ◌++◌, ◌==◌, Bool, List, [], ◌∷◌, codes}
+use Rattle.std.specs.Prelude.{◌≡◌, ◌⊎◌, ℕ, ◌+◌, ◌<◌, ◌++◌, ◌==◌, if◌then◌else◌, Bool, List, [], ◌∷◌, codes}
 use Rattle.std.specs.Fmt.{decimal}
 use Rattle.std.specs.List.{count_by, starts_with}
 use Rattle.address_text.specs.Fields.{parts}
@@ -50,6 +50,55 @@ counts_of text = record {
   traffic = traffic_counts text;
   drops = lines_with (codes "drop ") text;
 }
+
+-- ---- line by line
+
+-- what a line adds to the count of those that begin with these bytes
+abbrev pub one : List ℕ → List ℕ → ℕ
+one front line = if begins front line then 1 else 0
+
+-- what a line adds to the counts
+abbrev pub lease_line : List ℕ → LeaseCounts
+lease_line line = record {
+  reserves = one (codes "act reserve ") line;
+  grants = one (codes "act grant ") line;
+  holds = one (codes "act hold ") line;
+  drops = one (codes "act drop ") line;
+  frees = one (codes "act free ") line;
+  freed = one (codes "act freed ") line;
+}
+
+abbrev pub traffic_line : List ℕ → TrafficCounts
+traffic_line line = record {
+  opens = one (codes "act open ") line;
+  closes = one (codes "act close ") line;
+  losses = one (codes "act lose ") line;
+  hands = one (codes "act hand ") line;
+}
+
+abbrev pub line_counts : List ℕ → Counts
+line_counts line = record {
+  events = one (codes "event ") line;
+  sent = one (codes "sent ") line;
+  leases = lease_line line;
+  traffic = traffic_line line;
+  drops = one (codes "drop ") line;
+}
+
+-- each count is below a number
+abbrev pub LeasesBelow : ℕ → LeaseCounts → Type 0
+LeasesBelow n c =
+    (c.reserves < n) × (c.grants < n) × (c.holds < n) × (c.drops < n) × (c.frees < n) × (c.freed < n)
+
+abbrev pub TrafficBelow : ℕ → TrafficCounts → Type 0
+TrafficBelow n c = (c.opens < n) × (c.closes < n) × (c.losses < n) × (c.hands < n)
+
+pub record AreBelow (n : ℕ) (c : Counts) : Type 0 where
+  pub events : c.events < n
+  pub sent : c.sent < n
+  pub leases : LeasesBelow n c.leases
+  pub traffic : TrafficBelow n c.traffic
+  pub drops : c.drops < n
 
 -- ---- texts one behind the other
 

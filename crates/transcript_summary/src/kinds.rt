@@ -1,7 +1,8 @@
-ghost use Rattle.std.specs.Prelude.{◌≡◌, ◌+◌, IfOk};
-ghost use Rattle.transcript_summary.specs.Summary.{added, counts_of, lease_counts, leases_added, traffic_added, traffic_counts};
+ghost use Rattle.std.specs.Prelude.{◌≡◌, ◌+◌, ◌-◌, ◌^◌, IfOk};
+ghost use Rattle.transcript_summary.specs.Summary.{AreBelow, LeasesBelow, TrafficBelow, added, counts_of, lease_line, leases_added, line_counts, traffic_added, traffic_line};
 
-use crate::lines::lines_with;
+use crate::lines::tally;
+use address_text::cut;
 use std::alloc::AllocError;
 
 /// How many lines say an act on a lease, of each kind.
@@ -34,6 +35,31 @@ pub struct Counts {
     pub drops: u64,
 }
 
+const NO_LEASES: LeaseCounts = LeaseCounts {
+    reserves: 0,
+    grants: 0,
+    holds: 0,
+    drops: 0,
+    frees: 0,
+    freed: 0,
+};
+
+const NO_TRAFFIC: TrafficCounts = TrafficCounts {
+    opens: 0,
+    closes: 0,
+    losses: 0,
+    hands: 0,
+};
+
+/// No lines.
+const NONE: Counts = Counts {
+    events: 0,
+    sent: 0,
+    leases: NO_LEASES,
+    traffic: NO_TRAFFIC,
+    drops: 0,
+};
+
 // A sum, or that it is no number of 64 bits.
 fn sum(a: u64, b: u64) -> Result<u64, AllocError>
     ensures { IfOk result (λ n. n ≡ a + b) }
@@ -45,16 +71,18 @@ fn sum(a: u64, b: u64) -> Result<u64, AllocError>
 }
 
 impl LeaseCounts {
-    fn of(text: &[u8]) -> LeaseCounts
-        ensures { result ≡ lease_counts text.now }
+    // These lines and one more.
+    fn noted(&self, line: &[u8]) -> LeaseCounts
+        requires { LeasesBelow (2 ^ 64 - 1) self.now }
+        ensures { result ≡ leases_added self.now (lease_line line.now) }
     {
         LeaseCounts {
-            reserves: lines_with(b"act reserve ", text),
-            grants: lines_with(b"act grant ", text),
-            holds: lines_with(b"act hold ", text),
-            drops: lines_with(b"act drop ", text),
-            frees: lines_with(b"act free ", text),
-            freed: lines_with(b"act freed ", text),
+            reserves: tally(self.reserves, b"act reserve ", line),
+            grants: tally(self.grants, b"act grant ", line),
+            holds: tally(self.holds, b"act hold ", line),
+            drops: tally(self.drops, b"act drop ", line),
+            frees: tally(self.frees, b"act free ", line),
+            freed: tally(self.freed, b"act freed ", line),
         }
     }
 
@@ -73,14 +101,16 @@ impl LeaseCounts {
 }
 
 impl TrafficCounts {
-    fn of(text: &[u8]) -> TrafficCounts
-        ensures { result ≡ traffic_counts text.now }
+    // These lines and one more.
+    fn noted(&self, line: &[u8]) -> TrafficCounts
+        requires { TrafficBelow (2 ^ 64 - 1) self.now }
+        ensures { result ≡ traffic_added self.now (traffic_line line.now) }
     {
         TrafficCounts {
-            opens: lines_with(b"act open ", text),
-            closes: lines_with(b"act close ", text),
-            losses: lines_with(b"act lose ", text),
-            hands: lines_with(b"act hand ", text),
+            opens: tally(self.opens, b"act open ", line),
+            closes: tally(self.closes, b"act close ", line),
+            losses: tally(self.losses, b"act lose ", line),
+            hands: tally(self.hands, b"act hand ", line),
         }
     }
 
@@ -97,17 +127,32 @@ impl TrafficCounts {
 }
 
 impl Counts {
-    /// The lines of a text. Each kind is counted in one pass over it.
+    // These lines and one more.
+    fn noted(&self, line: &[u8]) -> Counts
+        requires { AreBelow (2 ^ 64 - 1) self.now }
+        ensures { result ≡ added self.now (line_counts line.now) }
+    {
+        Counts {
+            events: tally(self.events, b"event ", line),
+            sent: tally(self.sent, b"sent ", line),
+            leases: self.leases.noted(line),
+            traffic: self.traffic.noted(line),
+            drops: tally(self.drops, b"drop ", line),
+        }
+    }
+
+    /// The lines of a text, in one pass over it.
     pub fn of(text: &[u8]) -> Counts
         ensures { result ≡ counts_of text.now }
     {
-        Counts {
-            events: lines_with(b"event ", text),
-            sent: lines_with(b"sent ", text),
-            leases: LeaseCounts::of(text),
-            traffic: TrafficCounts::of(text),
-            drops: lines_with(b"drop ", text),
+        let mut counts = NONE;
+        let mut left = Some(text);
+        while let Some(rest) = left {
+            let (line, more) = cut(rest, b'\n');
+            counts = counts.noted(line);
+            left = more;
         }
+        counts
     }
 
     /// These lines and more. Fails where a count would pass 64 bits.
