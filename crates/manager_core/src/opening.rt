@@ -9,7 +9,7 @@ ghost use Rattle.wire_core.specs.Entries.{read_entry};
 use crate::manager::Manager;
 use manager_log::{LeaseLog, Pending, Queue};
 use manager_spec::Peer;
-use std::alloc::Global;
+use std::alloc::{AllocError, Global};
 use std::collections::BTreeMap;
 use vip_config::Config;
 use wire_core::{BodyList, Entry, EntryBytes, LeaseRules, NoMemory, Socket};
@@ -30,8 +30,25 @@ fn recover_body(log: &mut LeaseLog, body: &EntryBytes) -> Result<(), NoMemory>
     }
 }
 
+/// Folds in the bodies of a journal.
+#[tactic(auto, unfolding(node_spec::specs::Bodies::entries_of))]
+fn recover_bodies(log: &mut LeaseLog, bodies: &[EntryBytes]) -> Result<(), NoMemory>
+    requires { log.old.sound ≡ true }
+    ensures { OnOk result (log.new ≡ record log.old {
+      replica = record {
+        acceptor = fold follow log.old.replica.acceptor (entries_of bodies.now);
+        memory = log.old.replica.memory;
+      };
+    }) }
+{
+    for body in bodies {
+        recover_body(log, body)?;
+    }
+    Ok(())
+}
+
 /// The log that these bodies leave.
-#[tactic(auto, unfolding(paxos_spec::specs::Acceptor::state_of, node_spec::specs::Bodies::entries_of))]
+#[tactic(auto, unfolding(paxos_spec::specs::Acceptor::state_of))]
 fn recovered(alloc: Global, rules: LeaseRules, bodies: &[EntryBytes]) -> Result<LeaseLog, NoMemory>
     ensures { IfOk result (λ log. log ≡ record {
       rules = rules;
@@ -40,8 +57,10 @@ fn recovered(alloc: Global, rules: LeaseRules, bodies: &[EntryBytes]) -> Result<
     }) }
 {
     let mut log = LeaseLog::new(alloc, rules)?;
-    for body in bodies {
-        recover_body(&mut log, body)?;
+    if let Err(fault) = recover_bodies(&mut log, bodies) {
+        // by a call: the drops of its parts are then proved one by one, and not at this exit
+        drop(log);
+        return Err(fault);
     }
     Ok(log)
 }
@@ -86,7 +105,11 @@ impl Manager {
         let muxes = unknown_peers(alloc, cfg.muxes())?;
         let rules = cfg.lease_rules(alloc)?;
         let log = recovered(alloc, rules, bodies.as_slice())?;
-        let cfg = cfg.copy(alloc)?;
+        let Ok(cfg) = cfg.copy(alloc) else {
+            // by a call, as above
+            drop(log);
+            return Err(AllocError);
+        };
         Ok(Manager {
             alloc,
             cfg,

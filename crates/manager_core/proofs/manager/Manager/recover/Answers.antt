@@ -6,7 +6,7 @@ use Rattle.manager_core.proofs.manager.Manager.recover.Goals as goal
 
 pub invariant_of-result : goal.invariant_of-result
 invariant_of-result c =
-    let same : c.in_ok-log.log.rules ≡ lease_rules_of c.in_ok-cfg.cfg = search rules in
+    let same : c.in_ok-log.log.rules ≡ lease_rules_of c.in-Ok.cfg = search rules in
     let index : c.args.index < 5 = search rules in
     let numbered : NumberedFrom 0 c.in_ok-muxes.muxes.items = search rules in
     let few : length c.in_ok-muxes.muxes.items ≤ 16 = search rules in
