@@ -1,4 +1,4 @@
-ghost use Rattle.std.specs.Prelude.{◌≡◌, ◌||◌, ◌&&◌, ◌≤◌, ◌<◌, ◌*◌, ◌++◌, ◌∷◌, [], ℕ, false, map, if◌then◌else◌, IfOk, OnOk, is_some};
+ghost use Rattle.std.specs.Prelude.{◌≡◌, ◌||◌, ◌&&◌, ◌≤◌, ◌<◌, ◌*◌, ◌++◌, ◌∷◌, [], ℕ, false, map, if◌then◌else◌, IfOk, OnOk, is_some, slice_get};
 ghost use Rattle.mux_spec.specs.Rows.{kept_at, new_rows, program_row, programmed, ranges_by, row_at, set_row, unprogram_row};
 ghost use Rattle.wire_core.specs.declared.range.Range as ranges;
 ghost use Rattle.wire_core.specs.Ranges.{allows, is_leasable, range_at};
@@ -32,6 +32,15 @@ fn find(rows: &IndexMap<Range, Kept>, r: &Range) -> Option<Kept>
 {
     equality_is_sameness();
     rows.get(r).copied()
+}
+
+fn entry_at(rows: &IndexMap<Range, Kept>, i: usize) -> Option<(Range, Kept)>
+    ensures { result ≡ slice_get rows.now.entries i }
+{
+    match rows.get_index(i) {
+        Some((r, kept)) => Some((*r, *kept)),
+        None => None,
+    }
 }
 
 #[tactic(auto, unfolding(mux_spec::specs::Rows::set_row), using(crate::proofs::RowLaws::set_none))]
@@ -144,6 +153,13 @@ impl Ranges {
             n: 0,
             machine: None,
         })
+    }
+
+    /// The i-th range in the order of the entries, from 0, with what is kept of it. `None` exactly from their count on.
+    pub fn entry(&self, i: usize) -> Option<(Range, Kept)>
+        ensures { result ≡ slice_get self.now i }
+    {
+        entry_at(&self.rows, i)
     }
 
     fn set(&mut self, r: &Range, kept: Kept)
