@@ -167,6 +167,13 @@ impl<D: Disk> Journal<D> {
         false
     }
 
+    /// Lends the disk that the journal's file is on: the first one.
+    pub fn disk(&self) -> &D
+        ensures { result.now ≡ self.now.first }
+    {
+        &self.a
+    }
+
     /// Gives the two disks back, the first one first.
     pub fn into_disks(self) -> (D, D)
         ensures { result ≡ (self.first, self.second) }
