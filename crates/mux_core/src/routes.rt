@@ -71,6 +71,12 @@ impl Routes {
         &self.config
     }
 
+    pub(crate) fn index(&self) -> u16
+        ensures { result ≡ self.now.index }
+    {
+        self.index
+    }
+
     /// The outer source of what this mux wraps.
     pub(crate) fn own(&self) -> Ip4
         ensures { result ≡ own_address self.now.config self.now.index }
@@ -155,6 +161,13 @@ impl Routes {
         ensures { self.new ≡ record self.old { rows = unprogram_row self.old.rows n r.now } }
     {
         self.ranges.unprogram(n, r);
+    }
+
+    /// The i-th range that may be leased, from 0, with what is kept of it.
+    pub(crate) fn entry(&self, i: usize) -> Option<(Range, Kept)>
+        ensures { result ≡ slice_get self.now.rows i }
+    {
+        self.ranges.entry(i)
     }
 
     /// What is kept of the range: nothing where it may not be leased.

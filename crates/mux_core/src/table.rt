@@ -1,5 +1,5 @@
 // Which input is which row.
-ghost use Rattle.std.specs.Prelude.{◌≡◌, IfOk, OnOk};
+ghost use Rattle.std.specs.Prelude.{◌≡◌, IfOk, OnOk, slice_get};
 ghost use Rattle.mux_core.specs.Seen.{answered, with_lists};
 ghost use Rattle.mux_spec.specs.Mux.{on_tick};
 ghost use Rattle.mux_spec.specs.MuxTable.{from_replica, mux_hears, mux_step};
@@ -20,7 +20,7 @@ use crate::packets::{Goes, receive, verdict};
 use crate::sends::send_packet;
 use control_msg::Message;
 use ipip::Buf;
-use mux_spec::{Order, Verdict};
+use mux_spec::{Kept, Order, Verdict};
 use node_spec::{is_in_bytes, say_each};
 use std::alloc::Global;
 use vip_config::Who;
@@ -215,6 +215,13 @@ impl Mux {
         Ok(verdict(&self.routes, goes))
     }
 
+    /// Its number among the muxes.
+    pub fn index(&self) -> u16
+        ensures { result ≡ self.now.lists.index }
+    {
+        self.routes.index()
+    }
+
     /// The greatest boot of the entries that it opened from, 0 where there was none.
     pub fn boot(&self) -> u64
         ensures { result ≡ self.now.lists.gate.boot }
@@ -231,5 +238,13 @@ impl Mux {
             Some(machine) => Some((kept.n, machine)),
             None => None,
         }
+    }
+
+    /// The i-th range that may be leased, from 0, with its kept number and the machine of its row, where it has one: by
+    /// the VIPs of the configuration, and by their starts. `None` exactly from their count on.
+    pub fn row(&self, i: usize) -> Option<(Range, Kept)>
+        ensures { result ≡ slice_get self.now.lists.rows i }
+    {
+        self.routes.entry(i)
     }
 }
