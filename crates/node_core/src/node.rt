@@ -141,6 +141,13 @@ impl<C: Core, D: Disk> Node<C, D> {
         &self.core
     }
 
+    /// Lends the disk that its journal is on.
+    pub fn disk(&self) -> &D
+        ensures { result.now ≡ self.now.journal.first }
+    {
+        self.journal.disk()
+    }
+
     /// Whether the node may be used: false exactly after a fault of [`Node::handle`].
     pub fn is_live(&self) -> bool
         ensures { result ≡ is_ready self.now }
