@@ -93,8 +93,8 @@ summed size (block ∷ blocks) flags each long =
     let start : size * 0 ≡ 0 = omega arith in
     let here : block ≡ any_set (take size flags) = each zero (omega arith) ∙ ap (λ n. any_set (take size (drop n flags))) start in
     let rest : (k : ℕ) → k < length blocks → get_or blocks k false ≡ any_set (take size (drop (size * k) (drop size flags))) = λ k lt.
-        let step : size * suc k ≡ size + size * k = let one = mul-suc size k in omega (arith, one) in
-        each (suc k) (omega arith) ∙ ap (λ xs. any_set (take size xs)) (sym (drop_again size (size * k) (size * suc k) flags step)) in
+    let step : size * suc k ≡ size + size * k = let one = mul-suc size k in omega (arith, one) in
+    each (suc k) (omega arith) ∙ ap (λ xs. any_set (take size xs)) (sym (drop_again size (size * k) (size * suc k) flags step)) in
     (here, summed size blocks (drop size flags) rest (omega (arith, more, short, long)))
 
 -- ---- one flag is written

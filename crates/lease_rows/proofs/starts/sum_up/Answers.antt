@@ -18,7 +18,7 @@ loop-block-preserved c =
           let same = eqb-true k block hit in
           let inside : block < length blocks = omega (arith, c.loop-block.invariant.count, c.loop-block-test.true) in
           ap (λ i. get_or (set blocks block some) i false) same ∙ get_or-set_same blocks block some false inside
-              ∙ c.any_in_block.ensures ∙ ap (λ i. any_set (take 64 (drop (64 * i) c.args.flags.now))) (sym same))
+          ∙ c.any_in_block.ensures ∙ ap (λ i. any_set (take 64 (drop (64 * i) c.args.flags.now))) (sym same))
           (λ miss.
           let other : k ≢ block = λ same. true≢false (sym (eq-eqb k block same) ∙ miss) in
           get_or-set_other blocks block k some false other ∙ c.loop-block.invariant.each k (omega (arith, within, other)));
