@@ -1,7 +1,8 @@
 -- A list of nodes as the code keeps it, and as it is seen.
-use Rattle.std.proofs.Common.{◌≡◌, ◌<◌, ◌≤◌, ℕ, zero, suc, List, [], ◌∷◌, ◌++◌, map, length, get_or, set, None, sym, ap, arith}
+use Rattle.std.proofs.Common.{◌≡◌, ◌<◌, ◌≤◌, ℕ, zero, suc, List, [], ◌∷◌, ◌++◌, map, length, get_or, set, None, sym, ap, ◌∙◌, arith}
 use Rattle.std.proofs.lemmas.List.{map-set, get_or-map, get_or_past, length-map}
 use Rattle.std.proofs.lemmas.List.Elements.{All-append, All-from_get_or, All-get_or, All-set}
+use Rattle.node_spec.specs.Bodies.{entries_of}
 use Rattle.world_nodes.specs.declared.site.Site.{Site}
 use Rattle.world_nodes.specs.Disks.{ArePlaces, IsPlace, site_of}
 use Rattle.world_nodes.specs.Nodes.{nobody, site_at}
@@ -29,6 +30,18 @@ pub none_past : {C : Type 0} (sites : List (Site C)) (i : ℕ) → length sites 
     → None ≡ (site_at (map site_of sites) i).up
 none_past sites i past =
     sym (ap (λ s. s.up) (get_or_past (map site_of sites) i nobody (omega (arith, length-map sites site_of, past))))
+
+pub no_entry_past : {C : Type 0} (sites : List (Site C)) (i : ℕ) (bodies : List (List ℕ)) → bodies ≡ []
+    → length sites ≤ i → entries_of bodies ≡ (site_at (map site_of sites) i).entries
+unfolding entries_of
+no_entry_past sites i bodies none past =
+    ap entries_of none
+    ∙ sym (ap (λ s. s.entries) (get_or_past (map site_of sites) i nobody (omega (arith, length-map sites site_of, past))))
+
+pub none_learned_past : {C : Type 0} (sites : List (Site C)) (i : ℕ) → length sites ≤ i
+    → 0 ≡ (site_at (map site_of sites) i).learned
+none_learned_past sites i past =
+    sym (ap (λ s. s.learned) (get_or_past (map site_of sites) i nobody (omega (arith, length-map sites site_of, past))))
 
 -- one node more
 pub places_more : {C : Type 0} (sites : List (Site C)) (s : Site C) → ArePlaces sites → IsPlace s.place

@@ -21,7 +21,8 @@ mod stepped;
 
 pub use fault::WorldFault;
 pub use nodes::{
-    Nodes, crash_node, cut_node, cut_restart_node, lent, longest, restart_node, step_node,
+    Nodes, bodies_of, crash_node, cut_node, cut_restart_node, learned_by, lent, longest,
+    restart_node, step_node,
 };
 pub use opening::first_nodes;
 pub use site::{Place, Site};

@@ -1,5 +1,6 @@
 // All nodes of a world, by their roles.
 ghost use Rattle.std.specs.Prelude.{◌≡◌, ◌<◌, length, map, is_some, fold, IfSome, OnOk, IfOk};
+ghost use Rattle.node_spec.specs.Bodies.{entries_of};
 ghost use Rattle.node_spec.specs.Steps.{input_of};
 ghost use Rattle.world_nodes.specs.Disks.{ArePlaces, IsLent, site_of};
 ghost use Rattle.world_nodes.specs.Overflows.{FullsBy, cut_node_overflow, cut_overflow_at, cut_restart_node_overflow, cut_restart_overflow_at, restart_node_overflow, restart_overflow_at, step_node_overflow, step_overflow_at};
@@ -7,13 +8,13 @@ ghost use Rattle.world_nodes.specs.Sites.{deciding};
 ghost use Rattle.world_nodes.specs.Nodes.{AreNodes, crash_at, crash_node, cut_at, cut_node, cut_restart_at, cut_restart_node, longer, longest, node_at, nodes_of, restart_at, restart_node, site_at, step_at, step_node};
 
 use crate::fault::WorldFault;
-use crate::site::{Site, crash, cut, cut_restart, node, restart, step};
+use crate::site::{Site, bodies, crash, cut, cut_restart, node, restart, step};
 use crate::stepped::Stepped;
 use disk_model::MemDisk;
 use node_core::{Core, Node};
 use std::alloc::Global;
 use vip_config::Config;
-use wire_core::{Input, NodeId};
+use wire_core::{BodyList, Input, Items, NoMemory, NodeId};
 
 /// The nodes of each role by their numbers.
 #[derive(Drop)]
@@ -137,6 +138,25 @@ fn lent_at<C: Core>(sites: &[Site<C>], i: usize) -> Option<&Node<C, MemDisk>>
     } else {
         None
     }
+}
+
+#[tactic(auto, using(crate::proofs::Lists::same_length, crate::proofs::Lists::read_site, crate::proofs::Lists::places_at, crate::proofs::Lists::no_entry_past))]
+fn bodies_at<C: Core>(alloc: Global, sites: &[Site<C>], i: usize) -> Result<BodyList, NoMemory>
+    requires places { ArePlaces sites.now }
+    ensures { IfOk result (λ bodies. entries_of bodies ≡ (site_at (map site_of sites.now) i).entries) }
+{
+    if i < sites.len() {
+        bodies(alloc, &sites[i])
+    } else {
+        Ok(Items::new(alloc))
+    }
+}
+
+#[tactic(auto, using(crate::proofs::Lists::same_length, crate::proofs::Lists::read_site, crate::proofs::Lists::none_learned_past))]
+fn learned_at<C: Core>(sites: &[Site<C>], i: usize) -> u64
+    ensures { result ≡ (site_at (map site_of sites.now) i).learned }
+{
+    if i < sites.len() { sites[i].learned } else { 0 }
 }
 
 // ---- by their names
@@ -272,5 +292,33 @@ pub fn lent<C: Core>(nodes: &Nodes<C>, who: NodeId) -> Option<&Node<C, MemDisk>>
         NodeId::Replica(i) => lent_at(&nodes.replicas, usize::from(i)),
         NodeId::Mux(i) => lent_at(&nodes.muxes, usize::from(i)),
         NodeId::Agent(i) => lent_at(&nodes.agents, usize::from(i)),
+    }
+}
+
+/// The bodies of the journal of a node, whether it is up or down: none where it isn't there. They are read off a copy of
+/// its disk, which takes time and memory in all that was ever written to it.
+pub fn bodies_of<C: Core>(
+    alloc: Global,
+    nodes: &Nodes<C>,
+    who: NodeId,
+) -> Result<BodyList, NoMemory>
+    requires nodes { AreNodes nodes.now }
+    ensures { IfOk result (λ bodies. entries_of bodies ≡ (node_at (nodes_of nodes.now) who).entries) }
+{
+    match who {
+        NodeId::Replica(i) => bodies_at(alloc, &nodes.replicas, usize::from(i)),
+        NodeId::Mux(i) => bodies_at(alloc, &nodes.muxes, usize::from(i)),
+        NodeId::Agent(i) => bodies_at(alloc, &nodes.agents, usize::from(i)),
+    }
+}
+
+/// How many values the log of a node has, whether it is up or down: 0 where it isn't there.
+pub fn learned_by<C: Core>(nodes: &Nodes<C>, who: NodeId) -> u64
+    ensures { result ≡ (node_at (nodes_of nodes.now) who).learned }
+{
+    match who {
+        NodeId::Replica(i) => learned_at(&nodes.replicas, usize::from(i)),
+        NodeId::Mux(i) => learned_at(&nodes.muxes, usize::from(i)),
+        NodeId::Agent(i) => learned_at(&nodes.agents, usize::from(i)),
     }
 }

@@ -1,9 +1,10 @@
 // One node of a world, over its disks in memory.
 ghost use Rattle.std.specs.Prelude.{◌≡◌, ◌+◌, ◌++◌, Some, None, is_some, if◌then◌else◌, IfSome, IfErr, OnOk, IfOk};
+ghost use Rattle.node_spec.specs.Bodies.{entries_of};
 ghost use Rattle.node_spec.specs.Steps.{input_of};
 ghost use Rattle.world_spec.specs.Acts.{log_length};
 ghost use Rattle.world_spec.specs.Nodes.{boot_entry, booted, listed};
-ghost use Rattle.world_nodes.specs.Disks.{Holds, IsLent, IsPlace, IsUp, entries_on, entry_of, place_entries, place_up, site_of};
+ghost use Rattle.world_nodes.specs.Disks.{Holds, IsLent, IsPlace, IsUp, bodies_in, entries_on, entry_of, place_entries, place_up, site_of};
 ghost use Rattle.world_nodes.specs.Overflows.{FullsBy, overflow, site_cut_overflow, site_cut_restart_overflow, site_restart_overflow, site_step_overflow, world_fault};
 ghost use Rattle.world_nodes.specs.declared.fault.WorldFault.TheVariants.{NoMemory};
 ghost use Rattle.world_nodes.specs.Sites.{deciding, first_site, site_crash, site_cut, site_cut_restart, site_lose, site_restart, site_step, told_by, told_none};
@@ -12,13 +13,13 @@ use crate::fault::WorldFault;
 use crate::outbox::Outbox;
 use crate::stepped::Stepped;
 use disk_model::MemDisk;
-use journal::Refused;
-use node_core::{Core, Node};
+use journal::{Journal, Refused};
+use node_core::{BOUND, Core, Node};
 use node_disk::NodeFault;
-use std::alloc::Global;
+use std::alloc::{AllocError, Global};
 use std::mem;
 use vip_config::Config;
-use wire_core::{Entry, EntryBytes, Input, Items, NodeId};
+use wire_core::{BodyList, Entry, EntryBytes, Input, Items, NoMemory, NodeId};
 
 /// Where a node is: up, or down with its two disks. It is away only while it is being changed, and after a fault.
 #[derive(Drop)]
@@ -334,5 +335,33 @@ pub fn node<C: Core>(site: &Site<C>) -> Option<&Node<C, MemDisk>>
         Place::Up(node) => Some(node),
         Place::Down(..) => None,
         Place::Away => None,
+    }
+}
+
+// The bodies of a disk, read off a copy.
+fn read_disk(alloc: Global, disk: &MemDisk) -> Result<BodyList, NoMemory>
+    requires holds { Holds disk.now }
+    ensures { IfOk result (λ bodies. bodies ≡ bodies_in disk.now.history.now.bytes) }
+{
+    let copy = disk.copy(alloc)?;
+    let other = MemDisk::new(alloc)?;
+    match Journal::open(alloc, copy, other, BOUND) {
+        Ok((journal, bodies)) => {
+            drop(journal);
+            Ok(bodies)
+        }
+        Err(_) => Err(AllocError),
+    }
+}
+
+/// The bodies of the node's journal, whether it is up or down.
+pub fn bodies<C: Core>(alloc: Global, site: &Site<C>) -> Result<BodyList, NoMemory>
+    requires place { IsPlace site.now.place }
+    ensures { IfOk result (λ bodies. entries_of bodies ≡ (site_of site.now).entries) }
+{
+    match &site.place {
+        Place::Up(node) => read_disk(alloc, node.disk()),
+        Place::Down(disk, _) => read_disk(alloc, disk),
+        Place::Away => Ok(Items::new(alloc)),
     }
 }
