@@ -52,7 +52,7 @@ pub disk_more : (es : List Entry) (e : Option Entry) → disk_of (es ++ listed e
 disk_more es None = ap disk_of (append-nil es)
 disk_more es (Some e) = laws.disk_grows es (Some e)
 
-other_replica : (i j : ℕ) → j ≢ i → Replica j ≢ Replica i
+pub other_replica : (i j : ℕ) → j ≢ i → Replica j ≢ Replica i
 other_replica i j ne e = ne (ap index_of e)
 
 -- a step of a replica, in the view
@@ -100,6 +100,8 @@ lists_on w u i es ss up mv ok new j m is = elim (node_or (Replica j) (Replica i)
 
 pub record Shown (cfg : ConfigParts) (w u : World) : Type 0 where
   pub steps : StepsOnce (view w) (view u)
+  pub wrote : disk u (Replica steps.replica) ≡ disk w (Replica steps.replica) ++ listed steps.out.entry
+  pub others : (j : ℕ) → j ≢ steps.replica → disk u (Replica j) ≡ disk w (Replica j)
   pub lists : (i : ℕ) (m : Manager) → at u (Replica i) ≡ Some (OfManager m) → IsAt (view u) i m
   pub why : (v : Value) → steps.offered ≡ Some v → Offered cfg w v
 
@@ -121,6 +123,8 @@ goes_down cfg w u i e ok lt good mv =
         moves = pm;
         good = good (view u) pm;
       };
+      wrote = mv.disk_here;
+      others = λ j ne. mv.disk_other (Replica j) (other_replica i j ne);
       lists = lists_on w u i (listed e) [] None mv ok (λ m is. absurd (cc));
       why = λ v is. absurd (cc);
     }
@@ -165,6 +169,8 @@ opens cfg w u i ok lt mv =
         moves = pm;
         good = laws.reopening (view w) i e (here w i ok lt) tt (view u) pm;
       };
+      wrote = mv.disk_here;
+      others = λ j ne. mv.disk_other (Replica j) (other_replica i j ne);
       lists = lists_on w u i (listed e) [] up mv ok (λ m is. opened_at cfg w u i m mv is);
       why = λ v is. absurd (cc);
     }
@@ -223,7 +229,7 @@ turn_out cfg sound w r i m x was given =
     placed_mails cfg sound i (manager_step cfg m x).sends (manager_turn_fits cfg sound w r h.said i m x fit given).sends
     ∙ ap (λ (k : ℕ). mails_in k (manager_step cfg m x).sends) (sym fit.0)
 
-good_turn : (cfg : ConfigParts) → IsSound cfg → (w : World) → Reached cfg w → (i : ℕ) (m : Manager) (x : Input) → InOrder w
+pub good_turn : (cfg : ConfigParts) → IsSound cfg → (w : World) → Reached cfg w → (i : ℕ) (m : Manager) (x : Input) → InOrder w
     → i < 5 → at w (Replica i) ≡ Some (OfManager m) → Given cfg w (Replica i) x → IsGood cfg (view w) i m x
 good_turn cfg sound w r i m x ok lt was given =
     turns_are_good cfg (view w) i m x (record { here = here w i ok lt; at = ok.lists i m was })
@@ -269,6 +275,8 @@ turns cfg sound w u r i m x ok was given mv =
         moves = pm;
         good = g.turn.good (view u) pm;
       };
+      wrote = mv.disk_here;
+      others = λ j ne. mv.disk_other (Replica j) (other_replica i j ne);
       lists = lists_on w u i _ _ _ mv ok (λ n is. subst (IsAt (view u) i) (of_manager t.state n (some_is _ _ is))
           (still_at cfg g.offered (view w) (view u) i m t (ok.lists i m was) g.turn pm));
       why = λ v is. record { replica = i; lists = m; input = x; was = was; given = given; is = g.why v is };
@@ -311,6 +319,8 @@ rests cfg w u ss ok mute disks ups sent =
         moves = pm;
         good = laws.hearing (view w) 0 (memory_of (at w (Replica 0))) (here w 0 ok five) refl (view u) pm;
       };
+      wrote = disks 0 ∙ sym (append-nil _);
+      others = λ j ne. disks j;
       lists = λ j m is. (let k : IsAt (view w) j m = ok.lists j m (sym (ups j) ∙ is) in record {
         index = k.index;
         acceptor = k.acceptor ∙ ap (λ (es : List Entry). (disk_of es).state) (sym (disks j));
@@ -473,7 +483,7 @@ pub first_sent : (cfg : ConfigParts) → mails_of (first_world cfg).sent ≡ []
 unfolding first_world mails_of
 first_sent cfg = refl
 
-first_order : (cfg : ConfigParts) → InOrder (first_world cfg)
+pub first_order : (cfg : ConfigParts) → InOrder (first_world cfg)
 unfolding view
 first_order cfg = record {
   inv = laws.begins (view (first_world cfg)) (record {

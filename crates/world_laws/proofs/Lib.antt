@@ -9,6 +9,10 @@ pub mod Heard
 pub mod InWorld
 pub mod Books
 pub mod Living
+pub mod OwnActs
+pub mod LogLengths
+pub mod LogActs
+pub mod TranscriptActs
 pub mod Told
 pub mod Queues
 pub mod ReasonLaws

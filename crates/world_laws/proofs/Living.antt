@@ -45,7 +45,7 @@ pub gone_on : (es more : List Effect) (n : ℕ) → IsGone es n → IsGone (es +
 gone_on es more n h = record { row = h.row; number = h.number; done = in_left es more _ h.done }
 
 -- the commands of a log with more values behind it
-commands_append : (slot : ℕ) (values more : List Value)
+pub commands_append : (slot : ℕ) (values more : List Value)
     → commands_from slot (values ++ more) ≡ commands_from slot values ++ commands_from (slot + length values) more
 commands_append slot [] more = let e : slot ≡ slot + 0 = omega arith in ap (λ (s : ℕ). commands_from s more) e
 commands_append slot (v ∷ values) more =

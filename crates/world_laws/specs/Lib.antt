@@ -5,6 +5,7 @@ pub mod Sayings
 pub mod Hearing
 pub mod Log
 pub mod Living
+pub mod Acts
 pub mod Reasons
 pub mod Grants
 pub mod Agents

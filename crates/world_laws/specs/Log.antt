@@ -1,12 +1,9 @@
--- The log of a world: the replicas agree on it, it only grows, and their tables and their acts are its own.
+-- The log of a world: the replicas agree on it, it only grows, and their tables are its own.
 use Rattle.std.specs.Prelude.{◌≡◌, ℕ, ◌<◌, ◌≤◌, ◌⊎◌, List, [], ◌∷◌, ◌++◌, length, take, drop, Option, Some}
-use Rattle.std.specs.List.{flat_map}
-use Rattle.wire_core.specs.declared.act.Act.{Act}
 use Rattle.wire_core.specs.declared.node.NodeId.TheVariants.{Replica}
 use Rattle.vip_config.specs.Leases.{lease_rules_of}
 use Rattle.vip_config.specs.declared.parts.ConfigParts.{ConfigParts}
-use Rattle.lease_spec.specs.Places.{commands}
-use Rattle.lease_spec.specs.Table.{Leases, table, history}
+use Rattle.lease_spec.specs.Table.{Leases, table}
 use Rattle.paxos_spec.specs.Acceptor.{reach}
 use Rattle.paxos_spec.specs.Agreement.{View, values_of, world_log}
 use Rattle.paxos_spec.specs.Replica.{Out}
@@ -15,7 +12,7 @@ use Rattle.paxos_laws.specs.Facts.{Inv, Proposed}
 use Rattle.paxos_laws.specs.Steps.{Good}
 use Rattle.paxos_laws.specs.Steps as paxos
 use Rattle.manager_spec.specs.Agreement.{proposed}
-use Rattle.manager_spec.specs.Manager.{Manager, act_of, leases_of}
+use Rattle.manager_spec.specs.Manager.{Manager, leases_of}
 use Rattle.manager_spec.specs.ManagerTable.{manager_half}
 use Rattle.node_spec.specs.Turns.{Input}
 use Rattle.world_spec.specs.Nodes.{OfManager}
@@ -52,10 +49,6 @@ pub record BooksAgree (cfg : ConfigParts) (w : World) : Type 0 where
 pub record LogGrows (w u : World) : Type 0 where
   pub front : log u ≡ log w ++ drop (length (log w)) (log u)
   pub one : (log u ≡ log w) ⊎ ((v : Value) × (log u ≡ log w ++ v ∷ []))
-
--- The acts of the replicas are what the log's commands did.
-abbrev pub ActsAreOfLog : ConfigParts → World → List Act → Type 0
-ActsAreOfLog cfg w acts = acts ≡ flat_map act_of (history (lease_rules_of cfg) (commands (log w)))
 
 -- ---- a step
 

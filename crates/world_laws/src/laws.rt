@@ -8,6 +8,8 @@ ghost use Rattle.mux_spec.specs.Mux.{Mux};
 ghost use Rattle.mux_spec.specs.MuxTable.{mux_step};
 ghost use Rattle.node_spec.specs.Turns.{Input};
 ghost use Rattle.paxos_laws.specs.Order.{Claims};
+ghost use Rattle.schedule_text.specs.declared.event.Event.{Event};
+ghost use Rattle.world_laws.specs.Acts.{ActsAreOfLog, ShowsWhatGrew};
 ghost use Rattle.world_laws.specs.Agents.{AgentsAreRight, AgentsTellTheirOwn};
 ghost use Rattle.world_laws.specs.Grants.{AnswersAreTrue};
 ghost use Rattle.world_laws.specs.Hearing.{IsSound, ListsFit, SentFits, WrittenFits};
@@ -20,8 +22,11 @@ ghost use Rattle.world_laws.specs.Safety.{ConnsAreApart, HeldAreLeased, RangesAr
 ghost use Rattle.world_laws.specs.Sayings.{AgentSays, MuxSays};
 ghost use Rattle.world_laws.specs.Seen.{view};
 ghost use Rattle.world_laws.specs.Turns.{TurnsAreGood};
-ghost use Rattle.world_spec.specs.Events.{AreNamed, Basic, IsNamed, after, world};
+ghost use Rattle.world_spec.specs.Events.{AreNamed, Basic, IsNamed, after, expand, happens, world};
 ghost use Rattle.world_spec.specs.Facts.{Holds};
+ghost use Rattle.world_spec.specs.History.{run};
+ghost use Rattle.world_spec.specs.Transcript.{acts_in, end_from, transcript};
+ghost use Rattle.world_spec.specs.World.{first_world};
 
 /// Whatever comes to a manager, its turn is one step of the agreement that shows what it owes: the row is one such
 /// step, and with its proposal they are one. What is offered is the first 16 of what is due and of the queue.
@@ -66,6 +71,20 @@ pub fn each_event()
         → IsNamed cfg b → LogGrows (world cfg bs) (after cfg (world cfg bs) b) }
     ensures travel { (cfg : ConfigParts) → IsSound cfg → (bs : List Basic) → AreNamed cfg bs → (b : Basic)
         → IsNamed cfg b → ValuesTravel cfg (world cfg bs) (after cfg (world cfg bs) b) }
+{}
+
+/// What a run shows of the managers, the acts `reserve`, `grant`, `free` and `freed`, is what the commands of the log
+/// did, in the log's order. An event shows what the value by which the log grew in it does at its place, on top of the
+/// book, also where a crash cut the event short; one in which the log didn't grow shows none. So each value's acts are
+/// shown once, when the first manager learns it, whoever learns it later. Muxes and agents show no such act.
+pub fn acts()
+    ensures event { (cfg : ConfigParts) → IsSound cfg → (bs : List Basic) → AreNamed cfg bs → (b : Basic)
+        → IsNamed cfg b → ShowsWhatGrew cfg (world cfg bs) (after cfg (world cfg bs) b)
+        (acts_in (happens cfg (world cfg bs) b).1) }
+    ensures run { (cfg : ConfigParts) → IsSound cfg → (bs : List Basic) → AreNamed cfg bs
+        → ActsAreOfLog cfg (world cfg bs) (run cfg bs).acts }
+    ensures transcript { (cfg : ConfigParts) → IsSound cfg → (es : List Event) → AreNamed cfg (expand cfg es)
+        → ActsAreOfLog cfg (end_from cfg (first_world cfg) es) (acts_in (transcript cfg es)) }
 {}
 
 /// In every world the leases of the log live as the lease table promises of every list of commands, and what once

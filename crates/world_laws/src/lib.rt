@@ -4,6 +4,6 @@
 mod laws;
 
 pub use laws::{
-    agents, agreement, each_event, grants, hearing, kept, lives, reasons, replies, safety, sayings,
-    turns,
+    acts, agents, agreement, each_event, grants, hearing, kept, lives, reasons, replies, safety,
+    sayings, turns,
 };
