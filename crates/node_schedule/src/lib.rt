@@ -11,7 +11,7 @@
 //! | what a text says, and its transcript | `Schedule` |
 //! | the code's nodes and the tables | `Roles` |
 //! | what is written and answered | `Answers` |
-//! | that the run is safe | `Safety` |
+//! | that the run is safe, and shows what the log did | `Safety` |
 #![tactic(auto)]
 
 mod fault;

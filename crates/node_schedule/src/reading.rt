@@ -13,7 +13,7 @@ use std::alloc::Global;
 use vip_config::Config;
 use world_safety::always_safe;
 
-/// Each moment of the run of these lines is safe.
+/// Each moment of the run of these lines is safe, and the run shows what the managers' log did.
 fn runs_safely(cfg: &Config, lines: &[u8])
     ensures { IsSafeRun (under cfg.now (Some lines.now)) }
 {

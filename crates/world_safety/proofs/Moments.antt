@@ -86,6 +86,11 @@ always_safe cfg sound events honest n =
     safe_world cfg sound (take n (expand cfg events))
     (each_take (IsNamed cfg) n (expand cfg events) (all_named cfg events (first_world cfg) honest))
 
+-- the basic events of a schedule that was read are ones that a schedule may name
+pub read_names : (cfg : ConfigParts) (text : List ℕ) (events : List Event) → schedule_of cfg text ≡ Ok events
+    → AreNamed cfg (expand cfg events)
+read_names cfg text events read = all_named cfg events (first_world cfg) (none_forged cfg text events read)
+
 pub read_is_safe : (cfg : ConfigParts) → IsSound cfg → (text : List ℕ) (events : List Event)
     → schedule_of cfg text ≡ Ok events → IsAlwaysSafe cfg events
 read_is_safe cfg sound text events read = always_safe cfg sound events (none_forged cfg text events read)

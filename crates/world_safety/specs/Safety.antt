@@ -6,9 +6,11 @@ use Rattle.vip_config.specs.Rules.{Once}
 use Rattle.vip_config.specs.declared.parts.ConfigParts.{ConfigParts}
 use Rattle.schedule_text.specs.declared.event.Event.{Event}
 use Rattle.world_spec.specs.Events.{expand, world}
+use Rattle.world_spec.specs.Transcript.{acts_in, end_from, transcript}
 use Rattle.world_spec.specs.Views.{conns, held}
-use Rattle.world_spec.specs.World.{World}
+use Rattle.world_spec.specs.World.{World, first_world}
 use Rattle.world_spec.specs.declared.views.Held.{Held}
+use Rattle.world_laws.specs.Acts.{ActsAreOfLog}
 use Rattle.world_laws.specs.Kept.{GrantsAreKept}
 use Rattle.world_laws.specs.Replies.{RepliesReachTheirMachine}
 use Rattle.world_laws.specs.Safety.{HeldAreLeased, IsHeld, inner_end, outer_end, range_held}
@@ -41,6 +43,10 @@ moment cfg events n = world cfg (take n (expand cfg events))
 -- The run of a schedule is safe at every moment.
 abbrev pub IsAlwaysSafe : ConfigParts → List Event → Type 0
 IsAlwaysSafe cfg events = (n : ℕ) → IsSafe cfg (moment cfg events n)
+
+-- What the transcript of a schedule shows of the managers is what the commands of their log did, in the log's order.
+abbrev pub ShowsTheLog : ConfigParts → List Event → Type 0
+ShowsTheLog cfg events = ActsAreOfLog cfg (end_from cfg (first_world cfg) events) (acts_in (transcript cfg events))
 
 -- ---- what it means
 

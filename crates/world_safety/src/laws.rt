@@ -9,16 +9,18 @@ ghost use Rattle.world_model.specs.Shown.{FollowsTables, StandsFor};
 ghost use Rattle.world_nodes.specs.Sites.{deciding};
 ghost use Rattle.world_model.specs.World.{WorldState};
 ghost use Rattle.world_safety.specs.Nodes.{NodesAreSafe, Sees, played};
-ghost use Rattle.world_safety.specs.Safety.{HasOneHolder, IsAlwaysSafe, IsSafe};
+ghost use Rattle.world_safety.specs.Safety.{HasOneHolder, IsAlwaysSafe, IsSafe, ShowsTheLog};
 ghost use Rattle.world_spec.specs.Nodes.{Lists};
 ghost use Rattle.world_spec.specs.Transcript.{end_from};
 ghost use Rattle.world_spec.specs.World.{World, first_world};
 
 use node_core::Core;
+use world_laws::acts;
 
 /// Whatever a schedule says under a configuration that keeps its rules, its run is safe at every moment: after each
 /// event, and after each delivery of a settle. What comes from outside comes from no node's socket, and so it is in
-/// each schedule that is read. The world in which a schedule ends is safe.
+/// each schedule that is read. The world in which a schedule ends is safe, and what its transcript shows of the managers
+/// is what their log did.
 pub fn always_safe()
     ensures moments { (cfg : ConfigParts) → IsSound cfg → (events : List Event) → Each (IsHonest cfg) events
         → IsAlwaysSafe cfg events }
@@ -26,7 +28,11 @@ pub fn always_safe()
         → schedule_of cfg text ≡ Ok events → IsAlwaysSafe cfg events }
     ensures ends { (cfg : ConfigParts) → IsSound cfg → (events : List Event) → Each (IsHonest cfg) events
         → IsSafe cfg (end_from cfg (first_world cfg) events) }
-{}
+    ensures shows { (cfg : ConfigParts) → IsSound cfg → (text : List ℕ) (events : List Event)
+        → schedule_of cfg text ≡ Ok events → ShowsTheLog cfg events }
+{
+    acts();
+}
 
 /// In a safe world each range has one holder, and each end one connection.
 pub fn plainly()
