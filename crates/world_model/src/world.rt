@@ -1,4 +1,5 @@
 ghost use Rattle.std.specs.Prelude.{◌≡◌, ◌++◌, ◌∷◌, [], None, Some, true, is_some, IfErr, IfOk, OnOk, IfSome};
+ghost use Rattle.node_spec.specs.Bodies.{entries_of};
 ghost use Rattle.node_spec.specs.Steps.{input_of};
 ghost use Rattle.vip_config.specs.Queries.{socket_of};
 ghost use Rattle.world_mail.specs.Mails.{least_waiting, posted_at, taken_by};
@@ -21,11 +22,11 @@ use node_core::{Core, Node};
 use schedule_text::{Event, Line, Single, Word};
 use std::alloc::Global;
 use vip_config::Config;
-use wire_core::{Input, Items, NodeId};
+use wire_core::{BodyList, Input, Items, NoMemory, NodeId};
 use world_mail::Mail;
 use world_nodes::{
-    Nodes, WorldFault, crash_node, cut_node, cut_restart_node, first_nodes, lent, longest,
-    restart_node, step_node,
+    Nodes, WorldFault, bodies_of, crash_node, cut_node, cut_restart_node, first_nodes, learned_by,
+    lent, longest, restart_node, step_node,
 };
 
 /// The lines of an event.
@@ -398,5 +399,28 @@ impl<C: Core> World<C> {
             return None;
         };
         Some(node)
+    }
+
+    /// Lends the configuration that the world runs under.
+    pub fn config(&self) -> &Config
+        ensures { result.now ≡ (world_of self.now).cfg }
+    {
+        &self.cfg
+    }
+
+    /// The bodies of the entries on the node's disk, whether the node is up or down: none where it isn't configured.
+    /// They are read off a copy of the disk, which takes time and memory in all that was ever written to it.
+    pub fn bodies(&self, who: NodeId) -> Result<BodyList, NoMemory>
+        requires sound { IsSound C.may_open self.now }
+        ensures { IfOk result (λ bodies. entries_of bodies ≡ (node_at (world_of self.now).nodes who).entries) }
+    {
+        bodies_of(self.alloc, &self.nodes, who)
+    }
+
+    /// How many values the log on the node's disk has, whether the node is up or down: 0 where it isn't configured.
+    pub fn log_length(&self, who: NodeId) -> u64
+        ensures { result ≡ (node_at (world_of self.now).nodes who).learned }
+    {
+        learned_by(&self.nodes, who)
     }
 }
