@@ -1,0 +1,4 @@
+pub mod Walking
+pub mod Seeing
+pub mod Playing
+pub mod BookLaws
