@@ -1,11 +1,12 @@
 //! A host agent: its machines' packets, its leases and its connections.
-use crate::HAS_REDIRECTS;
 use crate::config::{Config, NodeId, Who};
 use crate::connections::{Connection, Connections};
+use crate::journal::Journal;
 use crate::messages::Message;
 use crate::packets::{self, Key, TCP};
 use crate::ranges::Ranges;
 use crate::step::{Act, Cause, Note, Step, To, late};
+use crate::{HAS_JOURNALS, HAS_REDIRECTS};
 use std::collections::VecDeque;
 use std::rc::Rc;
 
@@ -36,6 +37,8 @@ pub struct Agent<'c> {
     config: &'c Config,
     /// The place of its first machine.
     first: usize,
+    index: u16,
+    journal: Journal,
     boot: u64,
     memory: Memory,
 }
@@ -52,14 +55,19 @@ fn frame(packet: &[u8], edit: impl Fn(&mut [u8])) -> Rc<[u8]> {
 impl<'c> Agent<'c> {
     pub fn new(config: &'c Config, index: u16) -> Agent<'c> {
         let first = config.agents[usize::from(index)].machines.start;
-        let mut agent = Agent { config, first, boot: 0, memory: Memory::default() };
+        let (journal, memory) = (Journal::new(), Memory::default());
+        let mut agent = Agent { config, first, index, journal, boot: 0, memory };
         agent.memory.machines.resize_with(config.agents[usize::from(index)].machines.len(), Own::default);
         agent.reopen();
         agent
     }
 
     pub fn reopen(&mut self) {
-        self.boot += 1;
+        self.boot = if HAS_JOURNALS {
+            self.journal.open(NodeId::Agent(self.index), |_| {})
+        } else {
+            self.boot + 1
+        };
         let count = self.memory.machines.len();
         self.memory = Memory::default();
         self.memory.machines.resize_with(count, Own::default);

@@ -3,6 +3,7 @@ mod agent;
 mod config;
 mod connections;
 mod flows;
+mod journal;
 mod json;
 mod leases;
 mod manager;
@@ -27,6 +28,9 @@ use world::World;
 
 /// Whether muxes ask for redirects and agents take them.
 pub const HAS_REDIRECTS: bool = cfg!(redirects);
+
+/// Whether a disk is a journal, which is read from its first byte at each opening, and not what its entries come to.
+pub const HAS_JOURNALS: bool = cfg!(journals);
 
 const INPUT_LIMIT: u64 = 67_108_864;
 

@@ -1,7 +1,9 @@
 //! A replica: its part in the agreement on the log.
+use crate::HAS_JOURNALS;
 use crate::config::{Config, NodeId};
-use crate::leases::Table;
-use crate::messages::{Command, Message, Value};
+use crate::journal::Journal;
+use crate::leases::{Effect, Table};
+use crate::messages::{Command, Entry, Message, Value};
 use crate::step::{Cause, Step, late};
 use std::collections::{HashMap, HashSet, VecDeque};
 
@@ -64,8 +66,35 @@ pub struct Memory {
 pub struct Manager<'c> {
     pub config: &'c Config,
     pub index: u8,
+    journal: Journal,
     pub disk: Disk,
     pub memory: Memory,
+}
+
+impl Disk {
+    fn new(config: &Config) -> Disk {
+        Disk { promise: 0, vote: None, log: Vec::new(), table: Table::new(config) }
+    }
+
+    /// The entry is added; the answer is what a value that it adds to the log did.
+    fn fold(&mut self, config: &Config, entry: Entry) -> Vec<Effect> {
+        match entry {
+            Entry::Promise { ballot } => self.promise = self.promise.max(ballot),
+            Entry::Vote { ballot, value } => {
+                self.promise = self.promise.max(ballot);
+                self.vote = Some((ballot, value));
+            }
+            Entry::Learn { ballot, value } => {
+                let effects = self.table.apply(config, self.log.len() as u64, &value);
+                self.promise = self.promise.max(ballot);
+                self.vote = None;
+                self.log.push((ballot, value));
+                return effects;
+            }
+            Entry::Boot { .. } | Entry::Epoch { .. } => {}
+        }
+        Vec::new()
+    }
 }
 
 impl Memory {
@@ -114,12 +143,28 @@ fn campaign(above: u64, index: u8) -> Option<u64> {
 
 impl<'c> Manager<'c> {
     pub fn new(config: &'c Config, index: u8) -> Manager<'c> {
-        let disk = Disk { promise: 0, vote: None, log: Vec::new(), table: Table::new(config) };
-        Manager { config, index, disk, memory: Memory::new(config) }
+        let (journal, disk, memory) = (Journal::new(), Disk::new(config), Memory::new(config));
+        let mut manager = Manager { config, index, journal, disk, memory };
+        manager.reopen();
+        manager
     }
 
     pub fn reopen(&mut self) {
         self.memory = Memory::new(self.config);
+        if HAS_JOURNALS {
+            self.disk = Disk::new(self.config);
+            self.journal.open(NodeId::Replica(self.index), |entry| {
+                self.disk.fold(self.config, entry);
+            });
+        }
+    }
+
+    /// The entry is durable.
+    pub fn keep(&mut self, entry: Entry) -> Vec<Effect> {
+        if HAS_JOURNALS {
+            self.journal.append(&entry);
+        }
+        self.disk.fold(self.config, entry)
     }
 
     pub fn length(&self) -> u64 {
@@ -146,7 +191,7 @@ impl<'c> Manager<'c> {
         self.memory.ballot = ballot;
         self.memory.stage = Stage::Candidate(Tally::default());
         self.memory.heard = self.memory.time;
-        self.disk.promise = ballot;
+        self.keep(Entry::Promise { ballot });
         step.to_all(&Message::Prepare { ballot });
     }
 
@@ -189,7 +234,7 @@ impl<'c> Manager<'c> {
             return step.reply(from, &Message::Refuse { ballot, promised });
         }
         if ballot > promised {
-            self.disk.promise = ballot;
+            self.keep(Entry::Promise { ballot });
             self.memory.step_down();
             self.memory.heard = self.memory.time;
         }
@@ -272,8 +317,7 @@ impl<'c> Manager<'c> {
             return Ok(());
         }
         if !self.disk.vote.as_ref().is_some_and(|vote| vote.0 == ballot && vote.1 == value) {
-            self.disk.vote = Some((ballot, value));
-            self.disk.promise = ballot;
+            self.keep(Entry::Vote { ballot, value });
             if self.memory.ballot < ballot {
                 self.memory.step_down();
             }

@@ -2,7 +2,7 @@
 use crate::config::NodeId;
 use crate::leases::{Effect, Last, Outcome, Phase, Row};
 use crate::manager::{Acknowledged, Manager};
-use crate::messages::{Command, Message, Value};
+use crate::messages::{Command, Entry, Message, Value};
 use crate::step::{Act, Cause, Step, late};
 
 const MOST_COMMANDS: usize = 16;
@@ -12,10 +12,7 @@ const MOST_QUEUED: usize = 4096;
 impl Manager<'_> {
     /// The value joins the log, and its commands do what they do.
     pub fn learn(&mut self, ballot: u64, value: Value, step: &mut Step) -> Vec<Effect> {
-        let effects = self.disk.table.apply(self.config, self.length(), &value);
-        self.disk.log.push((ballot, value));
-        self.disk.vote = None;
-        self.disk.promise = self.disk.promise.max(ballot);
+        let effects = self.keep(Entry::Learn { ballot, value });
         for effect in &effects {
             step.acts.extend(match effect {
                 Effect::Reserved(row) => Some(Act::Reserve {

@@ -1,4 +1,5 @@
-//! Values, and the messages between the nodes.
+//! Values, the entries of disks, and the messages between the nodes.
+use crate::config::NodeId;
 use std::rc::Rc;
 
 #[derive(Clone, PartialEq, Eq, Hash)]
@@ -11,6 +12,15 @@ pub enum Command {
 }
 
 pub type Value = Rc<[Command]>;
+
+/// What a node makes durable.
+pub enum Entry {
+    Boot { node: NodeId, boot: u64 },
+    Promise { ballot: u64 },
+    Vote { ballot: u64, value: Value },
+    Learn { ballot: u64, value: Value },
+    Epoch { epoch: u64 },
+}
 
 pub enum Message {
     Prepare { ballot: u64 },
@@ -113,6 +123,29 @@ impl Reader<'_> {
         })
     }
 
+    fn boot(&mut self) -> Option<Entry> {
+        let [1, role] = self.take()? else { return None };
+        let index = self.port()?;
+        let node = match role {
+            1 => NodeId::Replica(u8::try_from(index).ok()?),
+            2 => NodeId::Mux(index),
+            3 => NodeId::Agent(index),
+            _ => return None,
+        };
+        Some(Entry::Boot { node, boot: self.number()? })
+    }
+
+    fn entry(&mut self) -> Option<Entry> {
+        Some(match self.byte()? {
+            1 => self.boot()?,
+            2 => Entry::Promise { ballot: self.number()? },
+            3 => Entry::Vote { ballot: self.number()?, value: self.value()? },
+            4 => Entry::Learn { ballot: self.number()?, value: self.value()? },
+            5 => Entry::Epoch { epoch: self.number()? },
+            _ => return None,
+        })
+    }
+
     fn replicas(&mut self, kind: u8) -> Option<Message> {
         Some(match kind {
             1 => Message::Prepare { ballot: self.number()? },
@@ -202,6 +235,13 @@ impl Reader<'_> {
     }
 }
 
+/// The entry that these bytes spell as a whole.
+pub fn decode_entry(bytes: &[u8]) -> Option<Entry> {
+    let mut reader = Reader(bytes);
+    let entry = reader.entry()?;
+    if reader.0.is_empty() { Some(entry) } else { None }
+}
+
 /// The message behind a frame byte.
 pub fn decode(bytes: &[u8]) -> Option<Message> {
     let mut reader = Reader(bytes);
@@ -256,6 +296,25 @@ impl Writer {
     fn value(self, value: &[Command]) -> Writer {
         value.iter().fold(self.byte(value.len() as u8), Writer::command)
     }
+}
+
+pub fn encode_entry(entry: &Entry) -> Vec<u8> {
+    let start = |kind| Writer(Vec::with_capacity(64)).byte(kind);
+    let written = match entry {
+        Entry::Boot { node, boot } => {
+            let (role, index) = match node {
+                NodeId::Replica(i) => (1, u16::from(*i)),
+                NodeId::Mux(i) => (2, *i),
+                NodeId::Agent(i) => (3, *i),
+            };
+            start(1).byte(1).byte(role).port(index).number(*boot)
+        }
+        Entry::Promise { ballot } => start(2).number(*ballot),
+        Entry::Vote { ballot, value } => start(3).number(*ballot).value(value),
+        Entry::Learn { ballot, value } => start(4).number(*ballot).value(value),
+        Entry::Epoch { epoch } => start(5).number(*epoch),
+    };
+    written.0
 }
 
 /// The datagram with this message.

@@ -1,10 +1,11 @@
 //! A mux: rows of ranges, flows of endpoints, and the packets that go by them.
-use crate::HAS_REDIRECTS;
 use crate::config::{Config, NodeId, Who};
 use crate::flows::Flows;
-use crate::messages::{Message, encode};
+use crate::journal::Journal;
+use crate::messages::{Entry, Message, encode};
 use crate::packets::{self, TCP};
 use crate::step::{Cause, Step, To};
+use crate::{HAS_JOURNALS, HAS_REDIRECTS};
 use std::collections::HashMap;
 
 struct Row {
@@ -21,6 +22,7 @@ struct Disk {
 pub struct Mux<'c> {
     config: &'c Config,
     index: u16,
+    journal: Journal,
     disk: Disk,
     time: u64,
     rows: HashMap<(usize, u16), Row>,
@@ -29,12 +31,23 @@ pub struct Mux<'c> {
 
 impl<'c> Mux<'c> {
     pub fn new(config: &'c Config, index: u16) -> Mux<'c> {
-        let disk = Disk { boot: 1, epoch: 0 };
-        Mux { config, index, disk, time: 0, rows: HashMap::new(), flows: Flows::default() }
+        let (journal, disk) = (Journal::new(), Disk { boot: 0, epoch: 0 });
+        let mut mux = Mux { config, index, journal, disk, time: 0, rows: HashMap::new(), flows: Flows::default() };
+        mux.reopen();
+        mux
     }
 
     pub fn reopen(&mut self) {
-        self.disk.boot += 1;
+        if HAS_JOURNALS {
+            self.disk.epoch = 0;
+            self.disk.boot = self.journal.open(NodeId::Mux(self.index), |entry| {
+                if let Entry::Epoch { epoch } = entry {
+                    self.disk.epoch = self.disk.epoch.max(epoch);
+                }
+            });
+        } else {
+            self.disk.boot += 1;
+        }
         self.time = 0;
         self.rows.clear();
         self.flows = Flows::default();
@@ -69,6 +82,9 @@ impl<'c> Mux<'c> {
     fn admit(&mut self, from: u8, epoch: u64, boot: u64, step: &mut Step) -> Result<(), Cause> {
         let (own, kept) = (self.disk.boot, self.disk.epoch);
         if boot == own && epoch >= kept {
+            if HAS_JOURNALS && epoch > kept {
+                self.journal.append(&Entry::Epoch { epoch });
+            }
             self.disk.epoch = epoch;
             return Ok(());
         }
