@@ -1,5 +1,5 @@
 -- The table of the longest log's values is the book, and its rows stand above 0.
-use Rattle.std.proofs.Common.{◌≡◌, ◌<◌, ◌≤◌, ℕ, zero, suc, ◌+◌, ◌*◌, Bool, true, false, List, [], ◌∷◌, ◌++◌, map, filter, length, take, get_or, refl, sym, ap, subst, ◌∙◌, arith, nat_lt}
+use Rattle.std.proofs.Common.{◌≡◌, ◌<◌, ◌≤◌, ℕ, zero, suc, ◌+◌, ◌*◌, Bool, true, false, List, [], ◌∷◌, ◌++◌, map, length, take, get_or, refl, sym, ap, subst, ◌∙◌, arith, nat_lt}
 use Rattle.std.specs.Prelude.{fold, if◌then◌else◌}
 use Rattle.std.specs.List.{flat_map}
 use Rattle.std.proofs.Math.Seq.{take-suc, take-length}
@@ -15,7 +15,6 @@ use Rattle.lease_spec.specs.Lives.{HasCause}
 use Rattle.lease_spec.specs.Places.{Placed, commands, commands_from, placed, slot_commands}
 use Rattle.lease_spec.specs.Table.{Leases, history, story, table}
 use Rattle.lease_spec.specs.Truths.{RowTold}
-use Rattle.lease_spec.specs.declared.effect.Effect.{Effect}
 use Rattle.lease_spec.specs.declared.effect.Effect.TheVariants as effect
 use Rattle.lease_spec.specs.declared.row.Row.{Row}
 use Rattle.node_roles.specs.declared.role.Role.{Role}
@@ -23,15 +22,14 @@ use Rattle.node_schedule.specs.Roles.{role_of}
 use Rattle.node_spec.specs.Bodies.{entries_of, entry_in}
 use Rattle.port_leases.specs.TableState.{TableState, apply_slot, fresh, rows_above}
 use Rattle.vip_config.specs.Leases.{lease_rules_of}
-use Rattle.vip_config.specs.declared.parts.ConfigParts.{ConfigParts}
 use Rattle.wire_core.specs.Commands.{LogCommand}
 use Rattle.wire_core.specs.Entries.{read_entry}
 use Rattle.wire_core.specs.Members.{Each, In}
 use Rattle.wire_core.specs.declared.entry.Entry.{Entry}
 use Rattle.wire_core.specs.declared.rules.LeaseRules.{LeaseRules}
-use Rattle.world_model.specs.Shown.{StandsFor, shown_site}
+use Rattle.world_model.specs.Shown.{shown_site}
 use Rattle.world_model.specs.World.{WorldState}
-use Rattle.world_nodes.specs.Nodes.{nobody, site_at}
+use Rattle.world_nodes.specs.Nodes.{site_at}
 use Rattle.world_nodes.specs.Sites.{SiteState}
 use Rattle.world_spec.specs.Acts.{learned, learned_by, log_length}
 use Rattle.world_spec.specs.Nodes.{Lists}

@@ -1,17 +1,16 @@
 -- What is seen of a world's nodes is the view of each world by the tables that it stands for.
-use Rattle.std.proofs.Common.{◌≡◌, ◌≤◌, ℕ, zero, suc, ◌+◌, List, [], ◌∷◌, ◌++◌, map, length, take, Option, Some, None, refl, sym, ap, ◌∙◌, arith, nat_lt}
+use Rattle.std.proofs.Common.{◌≡◌, ◌≤◌, ℕ, zero, suc, List, [], ◌∷◌, ◌++◌, map, length, take, Option, Some, None, refl, sym, ap, ◌∙◌, arith, nat_lt}
 use Rattle.std.specs.Prelude.{is_some, slice_get, option_map}
 use Rattle.std.specs.List.{flat_map}
 use Rattle.std.proofs.Math.Seq.{take-suc, take-length}
 use Rattle.std.proofs.lemmas.Bool.Decides.{nat_tests}
 use Rattle.std.proofs.lemmas.List.{flat_map_more, length-map}
-use Rattle.std.proofs.lemmas.List.Folds.{flat_map-map}
 use Rattle.agent_spec.specs.declared.connection.Connection.{Connection}
 use Rattle.node_roles.specs.declared.role.Role.{Role}
 use Rattle.node_schedule.specs.Roles.{role_of}
 use Rattle.vip_config.specs.declared.parts.ConfigParts.{ConfigParts}
 use Rattle.wire_core.specs.declared.node.NodeId.TheVariants.{Replica, Mux, Agent}
-use Rattle.world_model.specs.Shown.{StandsFor, shown, shown_site}
+use Rattle.world_model.specs.Shown.{StandsFor, shown_site}
 use Rattle.world_model.specs.World.{WorldState}
 use Rattle.world_nodes.specs.Nodes.{nobody, site_at}
 use Rattle.world_nodes.specs.Sites.{SiteState}

@@ -5,13 +5,10 @@ use Rattle.std.specs.List.{flat_map}
 use Rattle.std.proofs.lemmas.List.{flat_map_more, map-append, take_all, take_more, append_assoc}
 use Rattle.std.proofs.lemmas.Option.{get_or_from_slice_get, none-some, same_Some, slice_get_cases, slice_get_within}
 use Rattle.agent_spec.specs.declared.held.Held.{Held as HeldRange}
-use Rattle.mux_spec.specs.Mux.{Mux}
-use Rattle.mux_spec.specs.declared.row.Kept.{Kept}
 use Rattle.wire_core.specs.declared.address.Ip4.{Ip4}
 use Rattle.wire_core.specs.declared.range.Range.{Range}
-use Rattle.world_spec.specs.Views.{held_by, row_of}
+use Rattle.world_spec.specs.Views.{held_by}
 use Rattle.world_spec.specs.declared.views.Held.{Held}
-use Rattle.world_spec.specs.declared.views.MuxRow.{MuxRow}
 
 -- one more
 pub front_next : {X : Type 0} (xs : List X) (i : ℕ) (x : X) → slice_get xs i ≡ Some x

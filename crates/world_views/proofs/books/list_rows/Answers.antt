@@ -1,4 +1,4 @@
-use Rattle.std.proofs.Common.{rules, ◌≡◌, ◌∙◌, ◌++◌, ◌∷◌, [], ap, sym, subst}
+use Rattle.std.proofs.Common.{rules, ◌≡◌, ◌∙◌, ◌++◌, ◌∷◌, [], ap}
 use Rattle.lease_spec.specs.declared.row.Row.{Row}
 use Rattle.std.specs.Prelude.{List}
 use Rattle.port_leases.specs.TableState.{rows_above}

@@ -1,4 +1,4 @@
-use Rattle.std.proofs.Common.{rules, ◌≡◌, ◌∙◌, Some, None}
+use Rattle.std.proofs.Common.{rules, ◌≡◌, Some, None}
 use Rattle.std.specs.Prelude.{slice_get}
 use Rattle.world_spec.specs.Views.{row_of}
 use Rattle.world_views.proofs.Walking.{rows_last, rows_next}
