@@ -130,13 +130,13 @@ fn noted(seen: Seen) -> Noted
 }
 
 impl Lists {
-    /// No flows.
+    /// No flows. Memory is taken as flows come, so that a mux opens at once.
     #[tactic(auto, unfolding(mux_spec::specs::Flows::most_untrusted, mux_spec::specs::Flows::most_trusted))]
     pub fn new(alloc: Global) -> Result<Lists, NoMemory>
         ensures { IfOk result (λ t. t ≡ no_flows) }
     {
-        let untrusted = LruCache::new(alloc, NonZeroUsize::new(MOST_UNTRUSTED).unwrap())?;
-        let trusted = LruCache::new(alloc, NonZeroUsize::new(MOST_TRUSTED).unwrap())?;
+        let untrusted = LruCache::sparse(alloc, NonZeroUsize::new(MOST_UNTRUSTED).unwrap())?;
+        let trusted = LruCache::sparse(alloc, NonZeroUsize::new(MOST_TRUSTED).unwrap())?;
         Ok(Lists { untrusted, trusted })
     }
 
